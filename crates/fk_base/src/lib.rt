@@ -1,0 +1,19 @@
+//! The values that every other crate speaks of: byte texts, numbers, moments, addresses, pairs of protocol and port.
+//!
+//! Each type keeps its own bounds, each reader accepts exactly the texts of its grammar and each writer appends the one
+//! text of its value. No file, socket, clock or cipher is known here.
+//!
+//! Start at `bytes` for the two lists that hold memory, and at `decimal` for the shape of a reader and a writer.
+#![tactic(auto)]
+
+mod bytes;
+mod digest;
+mod hash_kind;
+mod memory;
+mod steps;
+
+pub use bytes::{Bytes, Words};
+pub use digest::Digest;
+pub use hash_kind::HashKind;
+pub use memory::{Failed, NoMemory};
+pub use steps::Steps;
