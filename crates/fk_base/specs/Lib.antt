@@ -1,1 +1,2 @@
 pub mod HashKind
+pub mod Status

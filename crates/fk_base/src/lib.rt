@@ -6,14 +6,24 @@
 //! Start at `bytes` for the two lists that hold memory, and at `decimal` for the shape of a reader and a writer.
 #![tactic(auto)]
 
+mod address;
 mod bytes;
 mod digest;
 mod hash_kind;
 mod memory;
+mod moment;
+mod pair;
+mod purpose;
+mod status;
 mod steps;
 
+pub use address::Ip4;
 pub use bytes::{Bytes, Words};
 pub use digest::Digest;
 pub use hash_kind::HashKind;
 pub use memory::{Failed, NoMemory};
+pub use moment::{GREATEST_MOMENT, Moment};
+pub use pair::{Pair, Proto};
+pub use purpose::Purpose;
+pub use status::Status;
 pub use steps::Steps;
