@@ -1,0 +1,12 @@
+//! What a run of the daemon did, in words that every layer shares: the items of the host's trace, the ledger of changes,
+//! when a record is idle, and which traces are legal.
+//!
+//! Nothing runs here. The code is the two types that a ledger is made of; the rest is definitions, in `specs/`.
+//!
+//! Start at `specs/Trace.antt` and read on in the order of `specs/Lib.antt`; `specs/Legal.antt` is what the daemon and the
+//! trial are held to.
+#![tactic(auto)]
+
+mod change;
+
+pub use change::{Change, OpenRecord};
