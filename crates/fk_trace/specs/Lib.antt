@@ -1,3 +1,6 @@
 pub mod Trace
 pub mod Ledger
 pub mod Idle
+pub mod Decision
+pub mod Planned
+pub mod Legal

@@ -8,5 +8,7 @@
 #![tactic(auto)]
 
 mod change;
+mod refusal;
 
 pub use change::{Change, OpenRecord};
+pub use refusal::LogWhy;
