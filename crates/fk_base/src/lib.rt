@@ -8,17 +8,20 @@
 
 mod address;
 mod bytes;
+mod decimal;
 mod digest;
 mod hash_kind;
 mod memory;
 mod moment;
 mod pair;
 mod purpose;
+mod short_text;
 mod status;
 mod steps;
 
 pub use address::Ip4;
 pub use bytes::{Bytes, Words};
+pub use decimal::{NumFault, put_decimal, read_decimal, read_moment};
 pub use digest::Digest;
 pub use hash_kind::HashKind;
 pub use memory::{Failed, NoMemory};

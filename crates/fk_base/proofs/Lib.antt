@@ -1,0 +1,2 @@
+mod DecimalExamples
+pub mod Numerals
