@@ -1,2 +1,7 @@
+pub mod Addresses
 mod DecimalExamples
+pub mod DottedBytes
+pub mod Fronts
+pub mod NumberFronts
 pub mod Numerals
+mod TextExamples

@@ -78,7 +78,7 @@ pub no_fault : (limit : ℕ) (text : List ℕ) → IsNumberText limit text → f
 no_fault limit text is =
     rw (ne_eqb (length text) 0 (let some = is.some in omega arith), is.digits, is.front, le-ltb limit (decimal_value text) is.fits) refl
 
-only_zero : (text : List ℕ) → 0 < length text → has_leading_zero text ≡ false → get_or text 0 0 ≡ 48 → length text ≡ 1
+pub only_zero : (text : List ℕ) → 0 < length text → has_leading_zero text ≡ false → get_or text 0 0 ≡ 48 → length text ≡ 1
 only_zero text some front zero = grind (arith, nat_tests)
 
 -- a text that passes the tests is the one text of its value
@@ -102,18 +102,21 @@ no_place ds all =
 pub decimal_value-decimal : (n : ℕ) → n < 2 ^ 64 → decimal_value (decimal n) ≡ n
 decimal_value-decimal n small = digits_value-decimal numerals n small
 
-front_of_decimal : (n : ℕ) → n < 2 ^ 64 → has_leading_zero (decimal n) ≡ false
+pub front_of_decimal : (n : ℕ) → n < 2 ^ 64 → has_leading_zero (decimal n) ≡ false
 front_of_decimal n small = elim (cases_lt 0 n) [
   | inl some ↦ let first = first_decimal n some small in grind (arith, nat_tests)
   | inr zero ↦ let is : n ≡ 0 = omega arith in rw (is, decimal_digit 0 (omega arith)) refl
 ]
+
+pub digits_of_decimal : (n : ℕ) → n < 2 ^ 64 → first_non_digit (decimal n) ≡ None
+digits_of_decimal n small = no_place (decimal n) (digits_decimal numerals n small)
 
 -- the text of a number passes the tests
 pub first_num_fault-decimal : (limit n : ℕ) → n ≤ limit → n < 2 ^ 64 → first_num_fault limit (decimal n) ≡ None
 first_num_fault-decimal limit n fits small =
     no_fault limit (decimal n) (record {
       some = decimal_nonempty n small;
-      digits = no_place (decimal n) (digits_decimal numerals n small);
+      digits = digits_of_decimal n small;
       front = front_of_decimal n small;
       fits = rw (decimal_value-decimal n small) fits;
     })

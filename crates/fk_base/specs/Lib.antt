@@ -1,3 +1,6 @@
+pub mod Address
 pub mod Decimal
 pub mod HashKind
+pub mod PairText
+pub mod Shape
 pub mod Status

@@ -91,7 +91,7 @@ fn value_within(digits: &[u8], limit: u64) -> Option<u64>
 }
 
 /// The number with one more digit behind it, if it is at most `limit`.
-fn push_digit(value: u64, digit: u8, limit: u64) -> Option<u64>
+pub fn push_digit(value: u64, digit: u8, limit: u64) -> Option<u64>
     ensures { SomeIff result (value * 10 + digit ≤ limit) (value * 10 + digit) }
 {
     let next = value.checked_mul(10)?.checked_add(u64::from(digit))?;
