@@ -17,3 +17,6 @@ pub use memory_sink::MemSink;
 pub use memory_source::MemSource;
 pub use standard::{StdSink, StdSource};
 pub use stream::{Sink, Source, write_all};
+
+#[cfg(test)]
+mod tests;

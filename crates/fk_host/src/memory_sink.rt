@@ -63,12 +63,12 @@ impl Sink for MemSink {
         ensures given { IfOk result (λ n. Gives (take n bytes.now) (Some self.old.written) (Some self.new.written)) }
         ensures kept { OnErr result (Some self.new.written ≡ Some self.old.written) }
         ensures cause { HasCause self.old.faults self.new.faults result }
-        // It takes what fits.
+        // It takes what fits, and at its limit it fails.
         ensures count { IfOk result (λ n. n ≡ fitting_count self.old (length bytes.now)) }
-        // It fails exactly at its limit, or where it couldn't grow, which it then tells from here on.
-        ensures full { fitting_count self.old (length bytes.now) ≡ 0 → IsErr result }
-        ensures told { OnErr result ((fitting_count self.old (length bytes.now) ≡ 0) ⊎ (self.new.is_short ≡ true)) }
-        ensures short { OnOk result (self.new.is_short ≡ self.old.is_short) }
+        ensures full { fitting_count self.old (length bytes.now) ≡ 0 → IsErr result × (self.new.is_short ≡ self.old.is_short) }
+        // Below its limit it fails only where it couldn't grow, which it then tells.
+        ensures short { OnErr result ((fitting_count self.old (length bytes.now) ≡ 0) ⊎ (self.new.is_short ≡ true)) }
+        ensures grown { OnOk result (self.new.is_short ≡ self.old.is_short) }
         ensures limit { self.new.limit ≡ self.old.limit }
     {
         let count = match self.limit {
