@@ -4,10 +4,12 @@ use Rattle.std.proofs.lemmas.List.{nil_from_length, take_rest, drop-drop, take-a
 use Rattle.std.proofs.Math.Seq.{take-add, take-append_seam}
 use Rattle.fk_host.specs.Stream.{Takes, Gives}
 
+-- where nothing is taken, all is left
 pub Takes-nil : (a : Option (List ℕ)) → Takes [] a a
 Takes-nil None = tt
 Takes-nil (Some bytes) = refl
 
+-- two pieces taken one after the other are one piece
 pub Takes-append : (p q : List ℕ) (a b c : Option (List ℕ)) → Takes p a b → Takes q b c → Takes (p ++ q) a c
 Takes-append p q None b c first second = tt
 Takes-append p q (Some x) None c first second = absurd first
@@ -15,10 +17,12 @@ Takes-append p q (Some x) (Some y) None first second = absurd second
 Takes-append p q (Some x) (Some y) (Some z) first second =
     rw (first, second) (sym (append_assoc p q z))
 
+-- where nothing is given, nothing is added
 pub Gives-nil : (a : Option (List ℕ)) → Gives [] a a
 Gives-nil None = tt
 Gives-nil (Some bytes) = ap Some (sym (append-nil bytes))
 
+-- two pieces given one after the other are one piece
 pub Gives-append : (p q : List ℕ) (a b c : Option (List ℕ)) → Gives p a b → Gives q b c → Gives (p ++ q) a c
 Gives-append p q None b c first second = tt
 Gives-append p q (Some x) None c first second = absurd (cc)

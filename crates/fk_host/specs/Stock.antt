@@ -7,7 +7,7 @@ pub record Stock : Type 0 where
   pub written : List ℕ
   -- how many bytes it takes in all, where there is a limit
   pub limit : Option ℕ
-  -- whether a write failed since the sink couldn't grow
+  -- whether a write has failed because the sink couldn't grow
   pub is_short : Bool
   -- how often it has failed
   pub faults : ℕ

@@ -44,7 +44,7 @@ impl MemSink {
         self.items.as_slice()
     }
 
-    /// Whether a write has failed since the sink couldn't grow.
+    /// Whether a write has failed because the sink couldn't grow.
     pub fn is_short(&self) -> bool
         ensures { result ≡ self.now.is_short }
     {
