@@ -1,0 +1,5 @@
+pub mod Letters
+pub mod Symbols
+pub mod Rest
+pub mod Right
+pub mod Faults

@@ -1,0 +1,64 @@
+ghost use Rattle.std.specs.Prelude.{◌≡◌, ℕ, ◌⊎◌, List, IfOk, IfErr, MatchOption, MatchResult};
+ghost use Rattle.fk_text.specs.Text.{text_of, IsBytes, IsText};
+ghost use Rattle.fk_text.specs.TextFault.{FirstTextFault};
+
+use crate::TextFault;
+use crate::letter::{first_bad_byte, has_loose_bits};
+use base64::DecodeAllocError;
+use base64::engine::general_purpose::STANDARD_NO_PAD;
+use fk_base::{Bytes, NoMemory};
+use std::alloc::Global;
+
+/// The text of `bytes`.
+pub fn put_text(alloc: Global, bytes: &[u8]) -> Result<Bytes, NoMemory>
+    ensures { IfOk result (λ text. text ≡ text_of bytes.now) }
+{
+    let text = STANDARD_NO_PAD.encode(alloc, bytes)?;
+    Bytes::copy(alloc, text.as_bytes())
+}
+
+/// The bytes whose text is `text`. All faults are tested before memory is asked for.
+pub fn take_text(alloc: Global, text: &[u8]) -> Result<Bytes, TextFault>
+    ensures taken { IfOk result (λ bytes. IsBytes bytes × (text.now ≡ text_of bytes)) }
+    ensures right { (bytes : List ℕ) → IsBytes bytes → text.now ≡ text_of bytes
+        → MatchResult result (λ b. b ≡ bytes) (λ e. e ≡ TextFault.NoMemory) }
+    ensures fault { IfErr result (λ e. (e ≡ TextFault.NoMemory) ⊎ FirstTextFault text.now e) }
+    ensures refused { (e : TextFault) → FirstTextFault text.now e → result ≡ Err e }
+{
+    match first_text_fault(text) {
+        Some(fault) => Err(fault),
+        None => take_right_text(alloc, text),
+    }
+}
+
+/// One text is of at most one list of bytes.
+pub fn text_of_one_list()
+    ensures { (b c : List ℕ) → IsBytes b → IsBytes c → text_of b ≡ text_of c → b ≡ c }
+{}
+
+fn first_text_fault(text: &[u8]) -> Option<TextFault>
+    ensures { MatchOption result (IsText text.now) (λ e. FirstTextFault text.now e) }
+{
+    if let Some(at) = first_bad_byte(text) {
+        return Some(TextFault::BadByte(at));
+    }
+    if text.len() % 4 == 1 {
+        return Some(TextFault::BadLength);
+    }
+    if has_loose_bits(text) {
+        return Some(TextFault::LooseBits);
+    }
+    None
+}
+
+fn take_right_text(alloc: Global, text: &[u8]) -> Result<Bytes, TextFault>
+    requires { IsText text.now }
+    ensures { MatchResult result (λ bytes. IsBytes bytes × (text.now ≡ text_of bytes))
+        (λ e. e ≡ TextFault.NoMemory) }
+{
+    match STANDARD_NO_PAD.decode(alloc, text) {
+        Ok(bytes) => Ok(Bytes::copy(alloc, bytes.as_slice())?),
+        Err(DecodeAllocError::OutOfMemory) => Err(TextFault::NoMemory),
+        Err(DecodeAllocError::DecodeError(_)) => unreachable!(),
+    }
+}
