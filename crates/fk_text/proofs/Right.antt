@@ -1,9 +1,12 @@
 -- A text has no fault, and what has no fault is the text of exactly one list of bytes.
-use Rattle.std.proofs.Common.{◌≡◌, ◌≢◌, ◌↔◌, ℕ, zero, suc, ◌+◌, ◌-◌, ◌*◌, ◌/◌, ◌%◌, ◌<◌, ◌≤◌, List, [], ◌∷◌, ◌++◌, map, length, get_or, slice_index, slice_index_or, All, refl, sym, ap, subst, ◌∙◌, arith}
+use Rattle.std.proofs.Common.{◌≡◌, ◌≢◌, ◌↔◌, ℕ, zero, suc, ◌+◌, ◌-◌, ◌*◌, ◌/◌, ◌%◌, ◌<◌, ◌≤◌, List, [], ◌∷◌, ◌++◌, map, length, take, drop, get_or, slice_index, slice_index_or, All, refl, sym, ap, subst, ◌∙◌, arith}
+use Rattle.std.proofs.lemmas.List.{take_at}
+use Rattle.base64.specs.GeneralPurpose.{encode_of}
+use Rattle.base64.specs.Engines.{standard_no_pad}
 use Rattle.fk_text.specs.Text.{IsBytes, IsText, letter_of, text_of}
 use Rattle.fk_text.specs.TextFault.{IsLetter, letter_number, unused_bits, HasZeroRest}
 use Rattle.fk_text.proofs.Letters.{letter_number-letter_of, number_of_letter, letter_from_number, letter_number_below}
-use Rattle.fk_text.proofs.Symbols.{numbers_of, text_of-numbers}
+use Rattle.fk_text.proofs.Symbols.{numbers_of, text_of-numbers, text_of-encode_of}
 use Rattle.fk_text.proofs.Rest.{unused_bits-four, rest_of_none, rest_of_two, rest_of_three}
 
 -- ---- the bytes of a text
@@ -214,3 +217,12 @@ bytes_of-text_of bytes h = ap bytes_of (text_of-numbers bytes h) ∙ bytes_of-le
 -- one text is of at most one list of bytes
 pub text_of_one_list : (b c : List ℕ) → IsBytes b → IsBytes c → text_of b ≡ text_of c → b ≡ c
 text_of_one_list b c hb hc e = sym (bytes_of-text_of b hb) ∙ ap bytes_of e ∙ bytes_of-text_of c hc
+
+-- the front of a slice that the engine wrote over
+pub front_is_text : (bytes over new : List ℕ) (n size : ℕ) → IsBytes bytes → n ≡ size → size ≡ (4 * length bytes + 2) / 3
+    → new ≡ encode_of standard_no_pad bytes ++ drop size over → take n new ≡ text_of bytes
+front_is_text bytes over new n size are is len written =
+    let e = text_of-encode_of bytes are in
+    let whole : new ≡ text_of bytes ++ drop size over = rw e written in
+    let l = length-text_of bytes are in
+    rw (whole, is) (take_at (text_of bytes) (drop size over) size (omega arith))

@@ -11,5 +11,5 @@ mod letter;
 mod text;
 mod text_fault;
 
-pub use text::{put_text, take_text, text_of_one_list};
+pub use text::{is_text_of, put_text, take_text, text_of_one_list};
 pub use text_fault::TextFault;

@@ -1,4 +1,4 @@
-ghost use Rattle.std.specs.Prelude.{◌≡◌, ℕ, ◌⊎◌, List, IfOk, IfErr, MatchOption, MatchResult};
+ghost use Rattle.std.specs.Prelude.{◌≡◌, ℕ, ◌⊎◌, ◌↔◌, ◌≤◌, List, length, IsTrue, IfOk, IfErr, MatchOption, MatchResult};
 ghost use Rattle.fk_text.specs.Text.{text_of, IsBytes, IsText};
 ghost use Rattle.fk_text.specs.TextFault.{FirstTextFault};
 
@@ -28,6 +28,19 @@ pub fn take_text(alloc: Global, text: &[u8]) -> Result<Bytes, TextFault>
     match first_text_fault(text) {
         Some(fault) => Err(fault),
         None => take_right_text(alloc, text),
+    }
+}
+
+/// Whether `text` is the text of at most 64 bytes. It takes no memory, and goes over all letters wherever the first
+/// wrong one is.
+pub fn is_text_of(text: &[u8], bytes: &[u8]) -> bool
+    requires { length bytes.now ≤ 64 }
+    ensures { IsTrue result ↔ (text.now ≡ text_of bytes.now) }
+{
+    let mut letters = [0; 86];
+    match STANDARD_NO_PAD.encode_slice(bytes, &mut letters) {
+        Ok(len) => are_equal(text, &letters[..len]),
+        Err(_) => unreachable!(),
     }
 }
 
@@ -61,4 +74,17 @@ fn take_right_text(alloc: Global, text: &[u8]) -> Result<Bytes, TextFault>
         Err(DecodeAllocError::OutOfMemory) => Err(TextFault::NoMemory),
         Err(DecodeAllocError::DecodeError(_)) => unreachable!(),
     }
+}
+
+fn are_equal(a: &[u8], b: &[u8]) -> bool
+    ensures { IsTrue result ↔ (a.now ≡ b.now) }
+{
+    if a.len() != b.len() {
+        return false;
+    }
+    let mut same = true;
+    for i in 0..a.len() {
+        same &= a[i] == b[i];
+    }
+    same
 }
