@@ -1,0 +1,99 @@
+ghost use Rattle.std.specs.Prelude.{◌≡◌, ◌↔◌, ◌++◌, ◌-◌, ◌≤◌, length, take, replicate, IfOk, IsTrue};
+ghost use Rattle.fk_mac.specs.Hmac.{block_key, block_len, hmac, mac_text, masked};
+
+use crate::MacBuf;
+use crate::hashes::{hash, hash_pieces};
+use fk_base::{Bytes, HashKind, NoMemory};
+use fk_text::{is_text_of, put_text};
+use std::alloc::Global;
+
+const INNER_PAD: u8 = 0x36;
+
+const OUTER_PAD: u8 = 0x5c;
+
+/// Leaves the HMAC of `head` and then `tail` in `out`.
+pub fn mac(kind: HashKind, key: &[u8], head: &[u8], tail: &[u8], out: &mut MacBuf)
+    ensures { out.new ≡ hmac kind key.now (head.now ++ tail.now) }
+{
+    let block = block_key(kind, key);
+    let len = block_len(kind);
+    let mut inner = MacBuf::new();
+    hash_pieces(
+        kind,
+        &masked(&block, INNER_PAD)[..len],
+        head,
+        tail,
+        &mut inner,
+    );
+    hash_pieces(
+        kind,
+        &masked(&block, OUTER_PAD)[..len],
+        inner.as_slice(),
+        &[],
+        out,
+    );
+}
+
+/// The HMAC of `head` and then `tail` as unpadded base64.
+pub fn mac_text(
+    alloc: Global,
+    kind: HashKind,
+    key: &[u8],
+    head: &[u8],
+    tail: &[u8],
+) -> Result<Bytes, NoMemory>
+    ensures { IfOk result (λ text. text ≡ mac_text kind key.now (head.now ++ tail.now)) }
+{
+    let mut out = MacBuf::new();
+    mac(kind, key, head, tail, &mut out);
+    put_text(alloc, out.as_slice())
+}
+
+/// Whether `text` is the HMAC of `head` and then `tail` as unpadded base64.
+pub fn verify(kind: HashKind, key: &[u8], head: &[u8], tail: &[u8], text: &[u8]) -> bool
+    ensures { IsTrue result ↔ (text.now ≡ mac_text kind key.now (head.now ++ tail.now)) }
+{
+    let mut out = MacBuf::new();
+    mac(kind, key, head, tail, &mut out);
+    is_text_of(text, out.as_slice())
+}
+
+fn block_len(kind: HashKind) -> usize
+    ensures { result ≡ block_len kind }
+{
+    match kind {
+        HashKind::Md5 | HashKind::Sha1 | HashKind::Sha256 => 64,
+        HashKind::Sha384 | HashKind::Sha512 => 128,
+    }
+}
+
+// The key filled with zeros to a block, or its hash where it is longer than that. Zeros follow the block.
+fn block_key(kind: HashKind, key: &[u8]) -> [u8; 128]
+    ensures { take (block_len kind) result ≡ block_key kind key.now }
+{
+    if key.len() > block_len(kind) {
+        let mut short = MacBuf::new();
+        hash(kind, key, &mut short);
+        return zero_filled(short.as_slice());
+    }
+    zero_filled(key)
+}
+
+fn zero_filled(bytes: &[u8]) -> [u8; 128]
+    requires { length bytes.now ≤ 128 }
+    ensures { result ≡ bytes.now ++ replicate (128 - length bytes.now) 0 }
+{
+    let mut block = [0; 128];
+    block[..bytes.len()].copy_from_slice(bytes);
+    block
+}
+
+fn masked(block: &[u8; 128], pad: u8) -> [u8; 128]
+    ensures { result ≡ masked pad block.now }
+{
+    let mut bytes = [0; 128];
+    for i in 0..128 {
+        bytes[i] = block[i] ^ pad;
+    }
+    bytes
+}

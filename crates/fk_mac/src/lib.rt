@@ -1,0 +1,15 @@
+//! The five hashes and HMAC (RFC 2104) over them, as bytes and as unpadded base64.
+//!
+//! A MAC's message is given in two pieces, so that nobody has to copy them together. Only the calls that give a text take
+//! memory. No key is made or kept here.
+//!
+//! Start at `mac`; what a hash and an HMAC are stands in `specs/Hmac.antt`.
+#![tactic(auto)]
+
+mod hashes;
+mod hmac;
+mod mac_buf;
+
+pub use hashes::{hash, hash_text, packet_digest};
+pub use hmac::{mac, mac_text, verify};
+pub use mac_buf::MacBuf;
