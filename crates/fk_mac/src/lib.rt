@@ -9,6 +9,8 @@
 mod hashes;
 mod hmac;
 mod mac_buf;
+#[cfg(test)]
+mod tests;
 
 pub use hashes::{hash, hash_text, packet_digest};
 pub use hmac::{mac, mac_text, verify};

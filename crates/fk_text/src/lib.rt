@@ -8,6 +8,8 @@
 #![tactic(auto)]
 
 mod letter;
+#[cfg(test)]
+mod tests;
 mod text;
 mod text_fault;
 
