@@ -1,9 +1,9 @@
 -- At most one fault is the first, and a text has none.
-use Rattle.std.proofs.Common.{◌≡◌, ◌≢◌, ◌↔◌, ℕ, zero, suc, ◌+◌, ◌-◌, ◌*◌, ◌/◌, ◌%◌, ◌==◌, ◌<◌, ◌≤◌, nat_lt, nat_eq, not, Bool, true, false, List, [], ◌∷◌, length, take, get_or, slice_index, slice_index_or, All, position, MatchOption, MatchBool, MatchResult, Some, None, Option, Result, Ok, Err, refl, sym, ap, subst, ◌∙◌, inl, inr, arith, Fits, w8}
+use Rattle.std.proofs.Common.{◌≡◌, ◌≢◌, ◌↔◌, ℕ, zero, suc, ◌-◌, ◌%◌, ◌==◌, ◌<◌, ◌≤◌, nat_lt, nat_eq, not, Bool, false, List, length, take, slice_index, slice_index_or, All, position, MatchOption, MatchBool, MatchResult, Option, Result, Ok, Err, refl, sym, ap, subst, ◌∙◌, inl, inr, arith, Fits, w8}
 use Rattle.std.proofs.lemmas.List.{get_or-take, length-take-le}
 use Rattle.std.proofs.lemmas.List.Sums.{fails_before_first, passes_at_first}
 use Rattle.std.proofs.lemmas.List.Elements.{All-from_get_or}
-use Rattle.std.proofs.lemmas.Bool.{cases_Bool, cases_lt, eqb-true, eq-eqb, ne_eqb, eqb-false, ltb-true, ltb-false}
+use Rattle.std.proofs.lemmas.Bool.{cases_Bool, cases_lt, eqb-true, ne_eqb, eqb-false, ltb-true, ltb-false}
 use Rattle.std.specs.List.{position_or_len}
 use Rattle.base64.specs.declared.decode.DecodeError.{DecodeError}
 use Rattle.fk_text.specs.declared.text_fault.TextFault.{TextFault}
@@ -12,7 +12,7 @@ use Rattle.fk_text.specs.Text.{IsBytes, IsText, text_of}
 use Rattle.fk_text.specs.TextFault.{IsLetter, letter_number, HasZeroRest, FirstTextFault}
 use Rattle.fk_text.proofs.Letters.{letter_number_below, IsLetter_unless}
 use Rattle.fk_text.proofs.Right.{text_of_one_list, All-text_of, length-text_of, rest-text_of}
-use Rattle.fk_text.proofs.Rest.{whole_rest, two_rest, three_rest}
+use Rattle.fk_text.proofs.Rest.{two_rest, three_rest}
 
 -- what a slice of bytes holds is bytes
 pub IsBytes_from : (xs : List ℕ) → ((i : ℕ) → Fits w8 (slice_index_or xs i 0)) → IsBytes xs

@@ -3,3 +3,4 @@ pub mod Symbols
 pub mod Rest
 pub mod Right
 pub mod Faults
+pub mod Examples

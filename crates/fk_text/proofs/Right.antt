@@ -1,10 +1,10 @@
 -- A text has no fault, and what has no fault is the text of exactly one list of bytes.
-use Rattle.std.proofs.Common.{◌≡◌, ◌≢◌, ◌↔◌, ℕ, zero, suc, ◌+◌, ◌-◌, ◌*◌, ◌/◌, ◌%◌, ◌<◌, ◌≤◌, List, [], ◌∷◌, ◌++◌, map, length, take, drop, get_or, slice_index, slice_index_or, All, refl, sym, ap, subst, ◌∙◌, arith}
+use Rattle.std.proofs.Common.{◌≡◌, ◌≢◌, ℕ, zero, suc, ◌+◌, ◌*◌, ◌/◌, ◌%◌, ◌<◌, List, [], ◌∷◌, ◌++◌, map, length, take, drop, All, refl, sym, ap, subst, ◌∙◌, arith}
 use Rattle.std.proofs.lemmas.List.{take_at}
 use Rattle.base64.specs.GeneralPurpose.{encode_of}
 use Rattle.base64.specs.Engines.{standard_no_pad}
 use Rattle.fk_text.specs.Text.{IsBytes, IsText, letter_of, text_of}
-use Rattle.fk_text.specs.TextFault.{IsLetter, letter_number, unused_bits, HasZeroRest}
+use Rattle.fk_text.specs.TextFault.{IsLetter, letter_number, HasZeroRest}
 use Rattle.fk_text.proofs.Letters.{letter_number-letter_of, number_of_letter, letter_from_number, letter_number_below}
 use Rattle.fk_text.proofs.Symbols.{numbers_of, text_of-numbers, text_of-encode_of}
 use Rattle.fk_text.proofs.Rest.{unused_bits-four, rest_of_none, rest_of_two, rest_of_three}

@@ -1,13 +1,12 @@
 -- A text, cut from one list of bits, is what RFC 4648 does with three bytes at a time.
-use Rattle.std.proofs.Common.{◌≡◌, ◌≢◌, ℕ, zero, suc, ◌+◌, ◌*◌, ◌/◌, ◌%◌, ◌==◌, ◌<◌, ◌≤◌, Bool, true, List, [], ◌∷◌, ◌++◌, map, length, slice_index, refl, sym, ap, ◌∙◌, arith}
+use Rattle.std.proofs.Common.{◌≡◌, ℕ, suc, ◌+◌, ◌*◌, ◌/◌, ◌%◌, ◌==◌, ◌<◌, List, [], ◌∷◌, map, refl, sym, ap, ◌∙◌, arith}
 use Rattle.std.proofs.lemmas.Bool.{eqb-true}
 use Rattle.std.proofs.lemmas.List.{append-nil}
-use Rattle.base64.specs.Tables.{all_below}
 use Rattle.base64.specs.Rfc4648.{encode_symbols}
 use Rattle.base64.specs.GeneralPurpose.{encode_of}
 use Rattle.base64.specs.Engines.{standard_no_pad}
 use Rattle.base64.proofs.Tables.{all_below_at}
-use Rattle.fk_text.specs.Text.{IsBytes, alphabet, letter_of, byte_bits, six_number, bits_of, group_numbers, text_of}
+use Rattle.fk_text.specs.Text.{IsBytes, alphabet, letter_of, six_number, bits_of, group_numbers, text_of}
 
 -- six bits of one byte, as a number
 high_six : (a : ℕ) → a < 256 → six_number (a / 128 % 2) (a / 64 % 2) (a / 32 % 2) (a / 16 % 2) (a / 8 % 2) (a / 4 % 2) ≡ a / 4

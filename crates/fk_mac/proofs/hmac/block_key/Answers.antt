@@ -1,4 +1,4 @@
-use Rattle.std.proofs.Common.{◌≡◌, ◌<◌, ◌≤◌, length, ap, ◌∙◌, arith}
+use Rattle.std.proofs.Common.{◌<◌, ◌≤◌, length, ◌∙◌, arith}
 use Rattle.fk_mac.specs.Hmac.{block_len}
 use Rattle.fk_mac.proofs.Blocks.{long_key_block, short_key_block}
 use Rattle.fk_mac.proofs.hmac.block_key.Goals as goal

@@ -1,4 +1,4 @@
-use Rattle.std.proofs.Common.{◌≡◌, ap, ◌∙◌, arith}
+use Rattle.std.proofs.Common.{◌∙◌}
 use Rattle.fk_mac.proofs.Blocks.{hmac_is}
 use Rattle.fk_mac.proofs.hmac.mac.Goals as goal
 

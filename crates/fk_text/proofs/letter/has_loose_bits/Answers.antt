@@ -1,4 +1,4 @@
-use Rattle.std.proofs.Common.{◌≡◌, ◌%◌, ◌-◌, length, arith, rules}
+use Rattle.std.proofs.Common.{arith}
 use Rattle.fk_text.proofs.Rest.{whole_rest}
 use Rattle.fk_text.proofs.Faults.{loose_two, loose_three}
 use Rattle.fk_text.proofs.letter.has_loose_bits.Goals as goal

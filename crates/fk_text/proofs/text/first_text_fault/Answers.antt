@@ -1,4 +1,4 @@
-use Rattle.std.proofs.Common.{◌≡◌, ℕ, Some, None}
+use Rattle.std.proofs.Common.{Some, None}
 use Rattle.fk_text.proofs.Right.{text_without_fault}
 use Rattle.fk_text.proofs.Faults.{IsBytes_from, letters_unless}
 use Rattle.fk_text.proofs.text.first_text_fault.Goals as goal

@@ -1,4 +1,4 @@
-use Rattle.std.proofs.Common.{◌≡◌, arith, rules}
+use Rattle.std.proofs.Common.{arith}
 use Rattle.std.proofs.lemmas.Grind.{common_steps}
 use Rattle.fk_text.proofs.Symbols.{text_of-encode_of}
 use Rattle.fk_text.proofs.Faults.{IsBytes_from}

@@ -1,4 +1,4 @@
-use Rattle.std.proofs.Common.{◌≡◌, sym, refl, arith, ◌∙◌}
+use Rattle.std.proofs.Common.{◌≡◌, sym, refl, ◌∙◌}
 use Rattle.fk_text.proofs.Symbols.{text_of-encode_of}
 use Rattle.fk_text.proofs.Faults.{not_both}
 use Rattle.fk_text.proofs.text.take_right_text.Goals as goal

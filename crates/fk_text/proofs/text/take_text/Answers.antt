@@ -1,4 +1,4 @@
-use Rattle.std.proofs.Common.{◌≡◌, ℕ, Err, ap}
+use Rattle.std.proofs.Common.{Err, ap}
 use Rattle.fk_text.proofs.Faults.{FirstTextFault_one, text_has_no_fault, taken_is}
 use Rattle.fk_text.proofs.text.take_text.Goals as goal
 
