@@ -4,3 +4,4 @@ pub mod Idle
 pub mod Decision
 pub mod Planned
 pub mod Legal
+pub mod Orderly

@@ -1,0 +1,5 @@
+pub mod KeptLemmas
+pub mod FreshLemmas
+pub mod StandsLemmas
+pub mod ActLemmas
+pub mod RankLemmas

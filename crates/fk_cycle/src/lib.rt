@@ -1,0 +1,14 @@
+//! The machine that decides when a record's close is started again, and when the record is settled.
+//!
+//! It is told each turn, each start and each end of a child, and keeps one status for each record whose close is owed.
+//! It starts nothing, and knows no clock, host or file.
+//!
+//! Start at `machine`, and at `specs/Stands.antt` for what ties a machine to the trace.
+#![tactic(auto)]
+
+mod act;
+mod machine;
+mod status;
+
+pub use act::{Act, CloseEnd};
+pub use machine::Machine;

@@ -1,0 +1,174 @@
+ghost use Rattle.std.specs.Prelude.{◌≡◌, ℕ, Some, if◌then◌else◌, Option};
+ghost use Rattle.fk_trace.specs.Idle.{rests, ended_well};
+ghost use Rattle.fk_cycle.specs.Kept.{fresh, noted_turn, noted_begun, noted_ended, is_ready};
+ghost use Rattle.fk_cycle.specs.Acts.{act_for_close};
+
+use crate::{Act, CloseEnd};
+use fk_base::{Moment, Purpose};
+use std::marker::Model;
+
+/// How many seconds a record rests after a close of it that ended badly.
+const REST: u64 = 10;
+
+/// How and when a close ended.
+#[derive(Clone, Copy)]
+struct LastClose {
+    good: bool,
+    moment: u64,
+}
+
+impl Model for LastClose {
+    ghost use Rattle.fk_trace.specs.Idle.{End};
+
+    ghost Value = { End };
+
+    ghost view = { λ e. record { good = e.good; moment = e.moment } };
+
+    ghost inverse = { λ e. record { good = e.good; moment = e.moment } };
+}
+
+/// What is kept for one record.
+#[derive(Drop)]
+pub(crate) struct Status {
+    id: u64,
+    due: u64,
+    open_runs: bool,
+    close: Option<bool>,
+    last_close: Option<LastClose>,
+    tried: bool,
+}
+
+impl Model for Status {
+    ghost use Rattle.fk_cycle.specs.Kept.{Kept};
+
+    ghost Value = { Kept };
+
+    ghost view = { λ s. record {
+        id = s.id;
+        due = s.due;
+        open_runs = s.open_runs;
+        close = s.close;
+        last_close = s.last_close;
+        tried = s.tried
+    } };
+}
+
+impl Status {
+    pub(crate) fn new(id: u64, due: u64) -> Self
+        ensures { result ≡ fresh id due }
+    {
+        Status {
+            id,
+            due,
+            open_runs: false,
+            close: None,
+            last_close: None,
+            tried: false,
+        }
+    }
+
+    pub(crate) fn id(&self) -> u64
+        ensures { result ≡ self.now.id }
+    {
+        self.id
+    }
+
+    pub(crate) fn due(&self) -> u64
+        ensures { result ≡ self.now.due }
+    {
+        self.due
+    }
+
+    pub(crate) fn turn(&mut self)
+        ensures { self.new ≡ noted_turn self.old }
+    {
+        self.tried = false;
+    }
+
+    pub(crate) fn begun(&mut self, purpose: Purpose)
+        ensures { self.new ≡ noted_begun purpose self.old }
+    {
+        match purpose {
+            Purpose::Open(id) => {
+                if id == self.id {
+                    self.open_runs = true;
+                }
+            }
+            Purpose::Close(id) => {
+                if id == self.id {
+                    self.close = Some(!self.open_runs);
+                    self.tried = true;
+                }
+            }
+        }
+    }
+
+    pub(crate) fn ended(&mut self, purpose: Purpose, good: bool, moment: Moment)
+        ensures { self.new ≡ noted_ended purpose good moment self.old }
+    {
+        match purpose {
+            Purpose::Open(id) => {
+                if id == self.id {
+                    self.open_runs = false;
+                }
+            }
+            Purpose::Close(id) => {
+                if id == self.id {
+                    self.close = None;
+                    self.last_close = Some(LastClose {
+                        good,
+                        moment: moment.get(),
+                    });
+                }
+            }
+        }
+    }
+
+    /// What follows where the close that runs ends well.
+    pub(crate) fn act(&self) -> Act
+        ensures { result ≡ act_for_close self.now.id self.now.open_runs self.now.close }
+    {
+        match self.close {
+            None => Act::Nothing,
+            Some(true) => Act::Settle(CloseEnd::new(self.id)),
+            Some(false) => {
+                if self.open_runs {
+                    Act::Wait
+                } else {
+                    Act::Nothing
+                }
+            }
+        }
+    }
+
+    /// A close may be attempted now.
+    pub(crate) fn is_ready(&self, moment: Moment) -> bool
+        ensures { result ≡ is_ready moment self.now }
+    {
+        let moment = moment.get();
+        self.close.is_none()
+            && !(self.open_runs && ended_well(self.last_close))
+            && !rests(self.last_close, moment)
+            && self.due <= moment
+            && !self.tried
+    }
+}
+
+fn ended_well(last_close: Option<LastClose>) -> bool
+    ensures { result ≡ ended_well last_close }
+{
+    match last_close {
+        None => false,
+        Some(end) => end.good,
+    }
+}
+
+/// Where the clock stands before that end, it does not count.
+fn rests(last_close: Option<LastClose>, moment: u64) -> bool
+    ensures { result ≡ rests last_close moment }
+{
+    match last_close {
+        None => false,
+        Some(end) => !end.good && end.moment <= moment && moment - end.moment < REST,
+    }
+}
