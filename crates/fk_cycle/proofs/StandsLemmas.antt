@@ -7,7 +7,7 @@ use Rattle.std.proofs.lemmas.List.{append-nil, map-append}
 use Rattle.std.proofs.lemmas.List.Elements.{All-contains, All-map, All-push, All-filter, All-weaker, Contains-get_or}
 use Rattle.std.proofs.lemmas.List.Kept.{AllPairs-filter}
 use Rattle.std.proofs.lemmas.List.Quantifiers.{all_pairs_push}
-use Rattle.std.proofs.lemmas.Bool.{eqb-true, eq-eqb, ne_eqb, and_parts, not-true, cases_Bool, eqb-false, or_left}
+use Rattle.std.proofs.lemmas.Bool.{eqb-true, eq-eqb, ne_eqb, and_parts, not-true, cases_Bool, eqb-false, or_left, and_from}
 use Rattle.fk_base.specs.declared.purpose.Purpose.{Purpose}
 use Rattle.fk_base.specs.declared.purpose.Purpose.TheVariants.{Open, Close}
 use Rattle.fk_trace.specs.Trace.{Event, Item, Child, children, running, open_runs, close_runs, close_tried, is_open_of, is_close_of}
@@ -80,6 +80,29 @@ is_owed-without id other live differ owed =
       let e = eqb-true o.id other t in
       ap not (ne_eqb o.id id (λ same. differ (sym e ∙ same)))) in
     list_any-find (λ (o : Obligation). o.id == other) (without id live) ∙ ap is_some kept ∙ sym (list_any-find (λ (o : Obligation). o.id == other) live) ∙ owed
+
+is_none-mapped : {X Y : Type 0} (f : X → Y) (o : Option X) → is_some o ≡ false → is_none (option_map f o) ≡ true
+is_none-mapped f None e = refl
+is_none-mapped f (Some x) e = absurd cc
+
+is_some-mapped : {X Y : Type 0} (f : X → Y) (o : Option X) → is_some o ≡ true → is_some (option_map f o) ≡ true
+is_some-mapped f None e = absurd cc
+is_some-mapped f (Some x) e = refl
+
+none-close : (past : List Item) (id : ℕ) → close_runs past id ≡ false → is_none (option_map (λ (child : Child). is_clean past child.number id) (find (λ child. is_close_of id child.purpose) (running past))) ≡ true
+none-close past id e =
+    is_none-mapped (λ (child : Child). is_clean past child.number id) (find (λ child. is_close_of id child.purpose) (running past))
+      (sym (list_any-find (λ (child : Child). is_close_of id child.purpose) (running past)) ∙ e)
+
+-- what is kept of a record tells each child of it that runs
+has_running-kept : (past : List Item) (ends : List ℕ) (owed : Obligation) (child : Child) → Contains (running past) child → (purpose : Purpose) → child.purpose ≡ purpose → record_of purpose ≡ owed.id → has_running purpose (kept_of past ends owed) ≡ true
+has_running-kept past ends owed child m (Open id) p e =
+    and_from (id == owed.id) (open_runs past owed.id) (eq-eqb id owed.id e)
+      (list_any-from (λ (c : Child). is_open_of owed.id c.purpose) (running past) child m (ap (is_open_of owed.id) p ∙ eq-eqb id owed.id e))
+has_running-kept past ends owed child m (Close id) p e =
+    let runs = list_any-from (λ (c : Child). is_close_of owed.id c.purpose) (running past) child m (ap (is_close_of owed.id) p ∙ eq-eqb id owed.id e) in
+    and_from (id == owed.id) (is_some (kept_of past ends owed).close) (eq-eqb id owed.id e)
+      (is_some-mapped (λ (c : Child). is_clean past c.number owed.id) (find (λ c. is_close_of owed.id c.purpose) (running past)) (sym (list_any-find (λ (c : Child). is_close_of owed.id c.purpose) (running past)) ∙ runs))
 
 module _ (machine : List Kept) (past : List Item) (ends : List ℕ) (live : List Obligation) (stands : Stands machine past ends live) where
   -- what holds of what is kept for each record that is owed holds of all that is kept
@@ -195,3 +218,23 @@ module _ (machine : List Kept) (past : List Item) (ends : List ℕ) (live : List
         (running past) stands.held;
       parted = All-push IsParted machine (fresh id due) stands.parted (λ clean. refl)
     }
+
+  -- a test of what is kept passes where it passes for a record that is owed
+  any-kept : (p : Kept → Bool) (id : ℕ) → is_owed live id ≡ true → ((owed : Obligation) → owed.id ≡ id → p (kept_of past ends owed) ≡ true) → list_any p machine ≡ true
+  any-kept p id owed h =
+    let some = list_any-at (λ (o : Obligation). o.id == id) live owed in
+    let passes = list_any-from (λ o. p (kept_of past ends o)) live some.0 some.1 (h some.0 (eqb-true some.0.id id some.2)) in
+    ap (list_any p) stands.kept ∙ list_any-map (kept_of past ends) p live ∙ passes
+
+  pub runs-kept : (child : Child) → Contains (running past) child → list_any (has_running child.purpose) machine ≡ true
+  runs-kept child m =
+    let owed = All-contains (λ c. is_owed live (record_of c.purpose) ≡ true) (running past) child stands.held m in
+    any-kept (has_running child.purpose) (record_of child.purpose) owed (λ o e. has_running-kept past ends o child m child.purpose refl (sym e))
+
+  pub open-begins : (id : ℕ) → is_owed live id ≡ true → open_runs past id ≡ false → close_runs past id ≡ false → list_any (may_begin (Open id)) machine ≡ true
+  open-begins id owed opens closes =
+    any-kept (may_begin (Open id)) id owed (λ o e. rw e (rw (eq-eqb id id refl, opens, none-close past id closes) refl))
+
+  pub close-begins : (id : ℕ) → is_owed live id ≡ true → close_runs past id ≡ false → list_any (may_begin (Close id)) machine ≡ true
+  close-begins id owed closes =
+    any-kept (may_begin (Close id)) id owed (λ o e. rw e (rw (eq-eqb id id refl, none-close past id closes) refl))

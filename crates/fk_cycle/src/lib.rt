@@ -3,10 +3,12 @@
 //! It is told each turn, each start and each end of a child, and keeps one status for each record whose close is owed.
 //! It starts nothing, and knows no clock, host or file.
 //!
-//! Start at `machine`, and at `specs/Stands.antt` for what ties a machine to the trace.
+//! Start at `machine`, and at `specs/Stands.antt` for what ties a machine to the trace; `laws` says what follows from that
+//! tie.
 #![tactic(auto)]
 
 mod act;
+mod laws;
 mod machine;
 mod status;
 

@@ -131,6 +131,28 @@ impl Machine {
         }
     }
 
+    /// It keeps something for the record.
+    pub fn keeps(&self, id: u64) -> bool
+        ensures { result ≡ is_kept id self.now.kept }
+    {
+        self.statuses.iter().any(|status| status.id() == id)
+    }
+
+    /// A child for this purpose may begin: an open where neither an open nor a close of its record runs, and a close where
+    /// no close of its record runs.
+    pub fn may_begin(&self, purpose: Purpose) -> bool
+        ensures { result ≡ list_any (may_begin purpose) self.now.kept }
+    {
+        self.statuses.iter().any(|status| status.may_begin(purpose))
+    }
+
+    /// A child for this purpose runs.
+    pub fn has_running(&self, purpose: Purpose) -> bool
+        ensures { result ≡ list_any (has_running purpose) self.now.kept }
+    {
+        self.statuses.iter().any(|status| status.has_running(purpose))
+    }
+
     fn first_ready(&self, moment: Moment) -> Option<Rank>
         ensures { IsFirstReady moment self.now.kept result }
     {

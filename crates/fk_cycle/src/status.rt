@@ -1,6 +1,6 @@
 ghost use Rattle.std.specs.Prelude.{◌≡◌, ℕ, Some, if◌then◌else◌, Option};
 ghost use Rattle.fk_trace.specs.Idle.{rests, ended_well};
-ghost use Rattle.fk_cycle.specs.Kept.{fresh, noted_turn, noted_begun, noted_ended, is_ready};
+ghost use Rattle.fk_cycle.specs.Kept.{fresh, noted_turn, noted_begun, noted_ended, may_begin, has_running, is_ready};
 ghost use Rattle.fk_cycle.specs.Acts.{act_for_close};
 
 use crate::{Act, CloseEnd};
@@ -121,6 +121,26 @@ impl Status {
                     });
                 }
             }
+        }
+    }
+
+    /// A child for this purpose may begin.
+    pub(crate) fn may_begin(&self, purpose: Purpose) -> bool
+        ensures { result ≡ may_begin purpose self.now }
+    {
+        match purpose {
+            Purpose::Open(id) => id == self.id && !self.open_runs && self.close.is_none(),
+            Purpose::Close(id) => id == self.id && self.close.is_none(),
+        }
+    }
+
+    /// A child for this purpose runs.
+    pub(crate) fn has_running(&self, purpose: Purpose) -> bool
+        ensures { result ≡ has_running purpose self.now }
+    {
+        match purpose {
+            Purpose::Open(id) => id == self.id && self.open_runs,
+            Purpose::Close(id) => id == self.id && self.close.is_some(),
         }
     }
 
