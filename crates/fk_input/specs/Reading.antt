@@ -17,6 +17,10 @@ pub record Reading : Type 0 where
   -- the source has answered that it is at its end
   pub ended : Bool
 
+-- no more bytes were taken from the source than show that an input is above its limit
+abbrev pub IsBounded : Reading → Type 0
+IsBounded r = r.offset + length r.pending ≤ input_limit + 1
+
 -- what is left of the input, behind what was used up, where the source tells what it has left
 abbrev pub rest : Reading → Option (List ℕ) → Option (List ℕ)
 rest r None = None
@@ -32,9 +36,9 @@ pub record TakesLine (old new : Reading) (before after : Option (List ℕ)) : Ty
   pub short : length new.line ≤ line_limit
   pub within : passes_limit old.offset piece ≡ false
   pub offset : new.offset ≡ old.offset + length piece
-  -- a line without its line feed is taken only at the end, and then the end was seen
+  -- a line without its line feed is all that was left, and the end was seen behind it
   pub fed : new.ended ≡ false → is_fed piece ≡ true
-  pub last : new.ended ≡ true → (is_fed piece ≡ false) × (new.pending ≡ []) × IfSome after (λ bytes. bytes ≡ [])
+  pub last : new.ended ≡ true → (is_fed piece ≡ false) × (new.pending ≡ []) × IfSome before (λ bytes. bytes ≡ piece)
 
 -- nothing is left
 pub record FindsEnd (old new : Reading) (before after : Option (List ℕ)) : Type 0 where

@@ -51,7 +51,7 @@ impl Model for LineReader {
 }
 
 impl LineReader {
-    ghost use Rattle.fk_input.specs.Reading.{rest, Says, IsCaused, UsesUp, Places};
+    ghost use Rattle.fk_input.specs.Reading.{rest, Says, IsCaused, UsesUp, Places, IsBounded};
 
     pub fn new() -> Self
         ensures { result ≡ record { pending = []; line = []; offset = 0; ended = false } }
@@ -76,7 +76,7 @@ impl LineReader {
     pub fn next<I: Source>(&mut self, input: &mut I) -> NextLine
         ensures says { Says result self.old self.new (rest self.old (I.left input.old)) (rest self.new (I.left input.new)) }
         ensures cause { IsCaused result (I.faults input.old) (I.faults input.new) }
-        ensures bound { self.new.offset + length self.new.pending ≤ input_limit + 1 }
+        ensures bound { IsBounded self.new }
     {
         self.len = 0;
         if self.ended {
@@ -108,9 +108,10 @@ impl LineReader {
         requires within { self.old.offset ≤ input_limit }
         ensures byte { IfOk result (λ next. IfSome next (λ b. UsesUp (b ∷ []) self.old self.new (I.left input.old) (I.left input.new) × (self.new.ended ≡ false))) }
         ensures end { IfOk result (λ next. IfNone next (UsesUp [] self.old self.new (I.left input.old) (I.left input.new) × (self.new.ended ≡ true)
-            × (self.old.pending ≡ []) × IfSome (I.left input.old) (λ bytes. bytes ≡ []))) }
+            × (self.old.pending ≡ []) × (self.new.pending ≡ []) × IfSome (I.left input.old) (λ bytes. bytes ≡ []))) }
         ensures failed { OnErr result (UsesUp [] self.old self.new (I.left input.old) (I.left input.new) × (self.new.ended ≡ false) × (self.new.pending ≡ [])) }
         ensures cause { HasCause (I.faults input.old) (I.faults input.new) result }
+        ensures bound { IsBounded self.new }
     {
         if let Some(b) = self.ahead.pop() {
             self.offset += 1;
@@ -128,7 +129,8 @@ impl LineReader {
 
     // Puts a byte that was used up to the line, or says why the line ends with it.
     fn place(&mut self, b: u8) -> Option<NextLine>
-        ensures { Places result self.old self.new b }
+        ensures places { Places result self.old self.new b }
+        ensures bound { IsBounded self.new }
     {
         if self.offset > MAX_INPUT {
             self.len = 0;
