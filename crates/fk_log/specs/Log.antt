@@ -1,5 +1,5 @@
 -- What a run prints: lines, each a function of an item of the trace, of a change, of a refusal, or of the end.
-use Rattle.std.specs.Prelude.{ℕ, ◌+◌, Bool, true, false, List, [], ◌∷◌, ◌++◌, map, length, Option, Some, None, codes, if◌then◌else◌}
+use Rattle.std.specs.Prelude.{ℕ, ◌+◌, Bool, true, false, List, [], ◌∷◌, ◌++◌, map, length, Option, Some, None, codes}
 use Rattle.std.specs.List.{cons_option, filter_map, flat_map, count_by, join_with_byte}
 use Rattle.std.specs.Fmt.{decimal}
 use Rattle.fk_log.specs.Counts.{capped}
@@ -7,7 +7,6 @@ use Rattle.fk_base.specs.Address.{ip_text}
 use Rattle.fk_base.specs.declared.address.Ip4.{Ip4}
 use Rattle.fk_base.specs.declared.purpose.Purpose.{Purpose}
 use Rattle.fk_base.specs.declared.purpose.Purpose.TheVariants.{Open, Close}
-use Rattle.fk_trace.specs.declared.change.OpenRecord.{OpenRecord}
 use Rattle.fk_trace.specs.declared.change.Change.{Change}
 use Rattle.fk_trace.specs.declared.refusal.LogWhy.{LogWhy}
 use Rattle.fk_trace.specs.declared.refusal.LogWhy.TheVariants as why
@@ -15,7 +14,7 @@ use Rattle.fk_trace.specs.Trace.{Event, Item, Child, past_after}
 use Rattle.fk_trace.specs.Trace.Event.{Turn, Began, StartFailed, Ended, Runs, PollFailed}
 use Rattle.fk_trace.specs.Ledger.{live}
 use Rattle.fk_trace.specs.Idle.{child_numbered}
-use Rattle.fk_trace.specs.Decision.{Input, FeedTurn, Permit, Rules, Answer, answer}
+use Rattle.fk_trace.specs.Decision.{Input, FeedTurn, Rules, Answer, answer}
 use Rattle.fk_trace.specs.Decision.Input.{Quiet, Datagram}
 use Rattle.fk_trace.specs.Decision.Answer.{Nothing, Refuses, Opens}
 use Rattle.fk_trace.specs.Planned.{settled_in, settlements, planned_turn, first_turn, later_turns}
