@@ -4,4 +4,5 @@ pub mod DottedBytes
 pub mod Fronts
 pub mod NumberFronts
 pub mod Numerals
+pub mod Pairs
 mod TextExamples

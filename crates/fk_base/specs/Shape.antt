@@ -1,5 +1,5 @@
 -- Where a text stops being the front of a right one.
-use Rattle.std.specs.Prelude.{◌≡◌, ℕ, ◌+◌, ◌-◌, ◌≤◌, List, ◌++◌, length, take, drop}
+use Rattle.std.specs.Prelude.{◌≡◌, ◌≢◌, ℕ, ◌<◌, slice_index, ◌+◌, ◌-◌, ◌≤◌, List, ◌++◌, length, take, drop}
 
 -- some right text begins with this front
 abbrev pub CanBegin : (List ℕ → Type 0) → List ℕ → Type 0
@@ -28,3 +28,10 @@ pub record IsRestFault (IsRight : List ℕ → Type 0) (text : List ℕ) (from p
   pub past : from ≤ place
   pub front : IsLongestFront IsRight (drop from text) (place - from)
   pub wrong : IsRight (drop from text) → ⊥
+
+-- the two lists have this many first bytes in common
+pub record IsCommonFront (text word : List ℕ) (len : ℕ) : Type 0 where
+  pub in_text : len ≤ length text
+  pub in_word : len ≤ length word
+  pub same : take len text ≡ take len word
+  pub apart : len < length text → len < length word → slice_index text len ≢ slice_index word len

@@ -48,6 +48,16 @@ impl ShortText {
         self.room[self.start] = byte;
     }
 
+    /// Puts the bytes before the text.
+    pub fn put_bytes(&mut self, bytes: &[u8])
+        requires { length bytes.now + length self.old ≤ SHORT_TEXT_ROOM }
+        ensures { self.new ≡ bytes.now ++ self.old }
+    {
+        let end = self.start;
+        self.start -= bytes.len();
+        self.room[self.start..end].copy_from_slice(bytes);
+    }
+
     /// Puts the number's digits before the text.
     pub fn put_decimal(&mut self, value: u64)
         requires { length (decimal value) + length self.old ≤ SHORT_TEXT_ROOM }

@@ -1,0 +1,87 @@
+ghost use Rattle.std.specs.Prelude.{◌≡◌, ◌<◌, ◌^◌, ◌++◌, IfErr, IfOk, OnErr, OnOk};
+ghost use Rattle.fk_base.specs.declared.pair.Pair.{Pair};
+ghost use Rattle.fk_base.specs.PairText.{IsPairText, IsProtoText, pair_text, proto_text};
+ghost use Rattle.fk_base.specs.Shape.{IsCommonFront, IsLongestFront, IsPartAt, IsPartFault};
+
+use crate::number_front::last_number;
+use crate::short_text::ShortText;
+use crate::{Bytes, NoMemory, Pair, Proto, ShapeFault};
+
+/// Reads a pair, as `tcp/22`. The port has no zero in front.
+pub fn read_pair(text: &[u8]) -> Result<Pair, ShapeFault>
+    ensures pair { IfOk result (λ pair. text.now ≡ pair_text pair) }
+    ensures every { (pair : Pair) → pair.port < 2 ^ 16 → text.now ≡ pair_text pair → result ≡ Ok pair }
+    ensures place { IfErr result (λ fault. IsLongestFront IsPairText text.now fault.0) }
+{
+    let (proto, port_at) = proto_before_slash(text)?;
+    let port = last_number(text, port_at, 1, 65535)? as u16;
+    Ok(Pair { proto, port })
+}
+
+/// Appends the pair's one text.
+pub fn put_pair(pair: Pair, out: &mut Bytes) -> Result<(), NoMemory>
+    ensures ok { OnOk result (out.new ≡ out.old ++ pair_text pair) }
+    ensures err { OnErr result (out.new ≡ out.old) }
+{
+    let mut text = ShortText::new();
+    text.put_decimal(u64::from(pair.port));
+    text.put_bytes(proto_bytes(pair.proto));
+    out.append(text.as_slice())
+}
+
+/// The protocol that the text begins with, and the place past the slash behind it.
+fn proto_before_slash(text: &[u8]) -> Result<(Proto, usize), ShapeFault>
+    ensures ok { IfOk result (λ p. IsPartAt (proto_text p.0) text.now 0 p.1) }
+    ensures err { IfErr result (λ fault. IsPartFault IsProtoText text.now 0 fault.0) }
+{
+    let tcp = common_front(text, proto_bytes(Proto::Tcp));
+    if tcp == 4 {
+        return Ok((Proto::Tcp, 4));
+    }
+    let udp = common_front(text, proto_bytes(Proto::Udp));
+    if udp == 4 {
+        return Ok((Proto::Udp, 4));
+    }
+    Err(ShapeFault(tcp.max(udp)))
+}
+
+/// The protocol's name and a slash.
+fn proto_bytes(proto: Proto) -> &'static [u8]
+    ensures { result.now ≡ proto_text proto }
+{
+    match proto {
+        Proto::Tcp => b"tcp/",
+        Proto::Udp => b"udp/",
+    }
+}
+
+/// How many bytes the text and the word have in common from their start on.
+fn common_front(text: &[u8], word: &[u8]) -> usize
+    ensures { IsCommonFront text.now word.now result }
+{
+    let mut len = 0;
+    while len < text.len() && len < word.len() && text[len] == word[len] {
+        len += 1;
+    }
+    len
+}
+
+#[cfg(test)]
+mod tests {
+    use crate::{Bytes, Pair, Proto, ShapeFault, put_pair, read_pair};
+    use std::test::Fail;
+
+    #[test]
+    fn pairs_are_read_and_written(rt: HostRuntime) -> Result<(), Fail> {
+        let mut out = Bytes::copy(rt.alloc(), b"open ")?;
+        put_pair(Pair::new(Proto::Udp, 65535).ok_or("port 0")?, &mut out)?;
+        assert_eq!(rt; out.as_slice(), b"open udp/65535".as_slice());
+        assert_eq!(rt; read_pair(b"tcp/22").ok(), Pair::new(Proto::Tcp, 22));
+        assert_eq!(rt; read_pair(b""), Err(ShapeFault(0)));
+        assert_eq!(rt; read_pair(b"tdp/22"), Err(ShapeFault(1)));
+        assert_eq!(rt; read_pair(b"tcp/"), Err(ShapeFault(4)));
+        assert_eq!(rt; read_pair(b"tcp/0"), Err(ShapeFault(4)));
+        assert_eq!(rt; read_pair(b"tcp/65536"), Err(ShapeFault(8)));
+        Ok(())
+    }
+}
