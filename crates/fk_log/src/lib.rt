@@ -3,13 +3,10 @@
 //!
 //! Nothing is written to the outside here, and nothing is decided.
 //!
-//! Start at `specs/Log.antt`, which says what a run prints; `item` has the lines of the code and `page` gathers them.
+//! Start at `specs/Log.antt`, which says what a run prints; `page` gathers its lines.
 #![tactic(auto)]
 
-mod item;
 mod line;
 mod page;
 
-pub use item::LogItem;
-pub use line::append_line;
 pub use page::{Page, Tally};

@@ -1,91 +1,19 @@
 ghost use Rattle.std.specs.Prelude.{◌≡◌, ◌++◌, ◌∷◌, [], OnOk, codes};
-ghost use Rattle.fk_log.specs.Log.{number_text, purpose_text, why_text, words_text, line_front, line_text, input_line_text};
-ghost use Rattle.fk_log.specs.Log.Line.{ReadyLine, TurnLine, EndedLine, PollFailedLine, SettledLine, RefusedLine, GrantedLine, OpenedLine, ClosedLine, BadLineLine, LongInputLine};
-ghost use Rattle.fk_log.specs.Page.{line_of};
+ghost use Rattle.fk_log.specs.Log.{number_text, purpose_text, why_text, words_text, line_front, input_line_text};
+ghost use Rattle.fk_log.specs.Log.Line.{ReadyLine, EndedLine, SettledLine, RefusedLine, GrantedLine, OpenedLine, ClosedLine, SummaryLine, BadLineLine, LongInputLine};
 
-use crate::LogItem;
+use crate::page::Tally;
 use fk_base::{Bytes, Ip4, Moment, NoMemory, Purpose, Words, put_decimal, put_ip};
 use fk_trace::LogWhy;
 
-/// Appends the line of the item, with its line feed. After an error a part of the line may stand there.
-pub fn append_line(item: &LogItem<'_>, out: &mut Bytes) -> Result<(), NoMemory>
-    ensures { OnOk result (out.new ≡ out.old ++ line_text (line_of item.now)) }
-{
-    append_front(item, out)?;
-    out.append(b"\n")
-}
-
-fn append_front(item: &LogItem<'_>, out: &mut Bytes) -> Result<(), NoMemory>
-    ensures { OnOk result (out.new ≡ out.old ++ line_front (line_of item.now)) }
-{
-    match *item {
-        LogItem::Ready { live } => append_ready(live, out),
-        LogItem::Turn { moment, number } => append_turn(moment, number, out),
-        LogItem::Ended {
-            moment,
-            purpose,
-            good,
-        } => append_ended(moment, purpose, good, out),
-        LogItem::PollFailed { moment, purpose } => append_poll_failed(moment, purpose, out),
-        LogItem::Settled { moment, id } => append_settled(moment, id, out),
-        LogItem::Refused {
-            moment,
-            source,
-            why,
-        } => append_refused(moment, source, why, out),
-        LogItem::Granted {
-            moment,
-            source,
-            id,
-            stanza,
-            until,
-        } => append_granted(moment, source, id, stanza, until, out),
-        LogItem::Opened {
-            moment,
-            id,
-            words,
-            begun,
-        } => append_opened(moment, id, words, begun, out),
-        LogItem::Closed {
-            moment,
-            id,
-            words,
-            begun,
-        } => append_closed(moment, id, words, begun, out),
-        LogItem::Summary {
-            turns,
-            opens,
-            closes,
-            settled,
-            refused,
-            live,
-        } => {
-            append_first_counts(turns, opens, closes, out)?;
-            append_last_counts(settled, refused, live, out)
-        }
-        LogItem::Usage => out.append(b"usage modes"),
-        LogItem::BadLine { line } => append_bad_line(line, out),
-        LogItem::LongInput { line } => append_long_input(line, out),
-        LogItem::InputFailed => out.append(b"input failed"),
-    }
-}
-
-fn append_ready(live: u64, out: &mut Bytes) -> Result<(), NoMemory>
+pub fn append_ready(live: u64, out: &mut Bytes) -> Result<(), NoMemory>
     ensures { OnOk result (out.new ≡ out.old ++ line_front (ReadyLine live)) }
 {
     out.append(b"ready ")?;
     append_number(live, out)
 }
 
-fn append_turn(moment: Moment, number: u64, out: &mut Bytes) -> Result<(), NoMemory>
-    ensures { OnOk result (out.new ≡ out.old ++ line_front (TurnLine moment number)) }
-{
-    append_number(moment.get(), out)?;
-    out.append(b" turn ")?;
-    append_number(number, out)
-}
-
-fn append_ended(
+pub fn append_ended(
     moment: Moment,
     purpose: Purpose,
     good: bool,
@@ -103,16 +31,7 @@ fn append_ended(
     }
 }
 
-fn append_poll_failed(moment: Moment, purpose: Purpose, out: &mut Bytes) -> Result<(), NoMemory>
-    ensures { OnOk result (out.new ≡ out.old ++ line_front (PollFailedLine moment purpose)) }
-{
-    append_number(moment.get(), out)?;
-    out.append(b" poll ")?;
-    append_purpose(purpose, out)?;
-    out.append(b" failed")
-}
-
-fn append_settled(moment: Moment, id: u64, out: &mut Bytes) -> Result<(), NoMemory>
+pub fn append_settled(moment: Moment, id: u64, out: &mut Bytes) -> Result<(), NoMemory>
     ensures { OnOk result (out.new ≡ out.old ++ line_front (SettledLine moment id)) }
 {
     append_number(moment.get(), out)?;
@@ -120,7 +39,12 @@ fn append_settled(moment: Moment, id: u64, out: &mut Bytes) -> Result<(), NoMemo
     append_number(id, out)
 }
 
-fn append_refused(moment: Moment, source: Ip4, why: LogWhy, out: &mut Bytes) -> Result<(), NoMemory>
+pub fn append_refused(
+    moment: Moment,
+    source: Ip4,
+    why: LogWhy,
+    out: &mut Bytes,
+) -> Result<(), NoMemory>
     ensures { OnOk result (out.new ≡ out.old ++ line_front (RefusedLine moment source why)) }
 {
     append_number(moment.get(), out)?;
@@ -130,7 +54,7 @@ fn append_refused(moment: Moment, source: Ip4, why: LogWhy, out: &mut Bytes) -> 
     out.append(why_word(why))
 }
 
-fn append_granted(
+pub fn append_granted(
     moment: Moment,
     source: Ip4,
     id: u64,
@@ -151,7 +75,7 @@ fn append_granted(
     append_number(until, out)
 }
 
-fn append_opened(
+pub fn append_opened(
     moment: Moment,
     id: u64,
     words: &Words,
@@ -168,7 +92,7 @@ fn append_opened(
     append_words(words, out)
 }
 
-fn append_closed(
+pub fn append_closed(
     moment: Moment,
     id: u64,
     words: &Words,
@@ -185,43 +109,46 @@ fn append_closed(
     append_words(words, out)
 }
 
-fn append_first_counts(turns: u64, opens: u64, closes: u64, out: &mut Bytes) -> Result<(), NoMemory>
-    ensures { OnOk result (out.new ≡ out.old ++ (codes "summary turns " ++ number_text turns ++ codes " opens " ++ number_text opens
-        ++ codes " closes " ++ number_text closes)) }
+pub fn append_summary(turns: u64, tally: Tally, live: u64, out: &mut Bytes) -> Result<(), NoMemory>
+    ensures { OnOk result (out.new ≡ out.old
+        ++ line_front (SummaryLine turns tally.opens tally.closes tally.settled tally.refused live)) }
+{
+    append_first_counts(turns, tally, out)?;
+    append_last_counts(tally, live, out)
+}
+
+fn append_first_counts(turns: u64, tally: Tally, out: &mut Bytes) -> Result<(), NoMemory>
+    ensures { OnOk result (out.new ≡ out.old ++ (codes "summary turns " ++ number_text turns ++ codes " opens " ++ number_text tally.opens
+        ++ codes " closes " ++ number_text tally.closes)) }
 {
     out.append(b"summary turns ")?;
     append_number(turns, out)?;
     out.append(b" opens ")?;
-    append_number(opens, out)?;
+    append_number(tally.opens, out)?;
     out.append(b" closes ")?;
-    append_number(closes, out)
+    append_number(tally.closes, out)
 }
 
-fn append_last_counts(
-    settled: u64,
-    refused: u64,
-    live: u64,
-    out: &mut Bytes,
-) -> Result<(), NoMemory>
-    ensures { OnOk result (out.new ≡ out.old ++ (codes " settled " ++ number_text settled ++ codes " refused " ++ number_text refused
+fn append_last_counts(tally: Tally, live: u64, out: &mut Bytes) -> Result<(), NoMemory>
+    ensures { OnOk result (out.new ≡ out.old ++ (codes " settled " ++ number_text tally.settled ++ codes " refused " ++ number_text tally.refused
         ++ codes " live " ++ number_text live)) }
 {
     out.append(b" settled ")?;
-    append_number(settled, out)?;
+    append_number(tally.settled, out)?;
     out.append(b" refused ")?;
-    append_number(refused, out)?;
+    append_number(tally.refused, out)?;
     out.append(b" live ")?;
     append_number(live, out)
 }
 
-fn append_bad_line(line: u64, out: &mut Bytes) -> Result<(), NoMemory>
+pub fn append_bad_line(line: u64, out: &mut Bytes) -> Result<(), NoMemory>
     ensures { OnOk result (out.new ≡ out.old ++ line_front (BadLineLine line)) }
 {
     append_input_line(line, out)?;
     out.append(b" BadLine")
 }
 
-fn append_long_input(line: u64, out: &mut Bytes) -> Result<(), NoMemory>
+pub fn append_long_input(line: u64, out: &mut Bytes) -> Result<(), NoMemory>
     ensures { OnOk result (out.new ≡ out.old ++ line_front (LongInputLine line)) }
 {
     append_input_line(line, out)?;

@@ -1,16 +1,16 @@
 -- Lemmas on the children of a trace.
-use Rattle.std.proofs.Common.{◌≡◌, ◌≢◌, ℕ, ◌<◌, Bool, true, false, not, ◌||◌, ◌==◌, cond, List, [], ◌∷◌, ◌++◌, length, Option, Some, None, refl, sym, ap, ◌∙◌, arith, ◌⊎◌, inl, inr, get_or}
-use Rattle.std.specs.List.{find, filter, list_any, All, AllPairs, Contains}
+use Rattle.std.proofs.Common.{◌≡◌, ◌≢◌, ℕ, ◌<◌, Bool, true, not, ◌==◌, List, [], ◌∷◌, Some, refl, ap, arith, inl, inr, get_or}
+use Rattle.std.specs.List.{All, Contains}
 use Rattle.std.proofs.lemmas.List.{append-nil}
 use Rattle.std.proofs.lemmas.List.Elements.{Contains-append_right, Contains-append_left, Contains-append_cases, Contains-get_or}
 use Rattle.std.proofs.lemmas.List.Kept.{AllPairs-filter}
 use Rattle.std.proofs.lemmas.List.Quantifiers.{all_pairs_push}
-use Rattle.std.proofs.lemmas.Bool.{eqb-true, eq-eqb, ne_eqb}
+use Rattle.std.proofs.lemmas.Bool.{eqb-true, eq-eqb}
 use Rattle.fk_base.specs.declared.purpose.Purpose.{Purpose}
 use Rattle.fk_base.specs.declared.purpose.Purpose.TheVariants.{Open, Close}
-use Rattle.fk_trace.specs.Trace.{Event, Item, Child, children, running, still_running, begun_by, is_open_of, is_close_of, open_runs, close_runs}
+use Rattle.fk_trace.specs.Trace.{Event, Item, Child, children, running, still_running, begun_by, is_open_of, is_close_of}
 use Rattle.fk_trace.specs.Trace.Event.{Turn, Began, StartFailed, Ended, Runs, PollFailed}
-use Rattle.fk_trace.specs.Idle.{child_numbered, is_clean, begins}
+use Rattle.fk_trace.specs.Idle.{child_numbered}
 use Rattle.fk_trace.specs.Orderly.{IsOrderly}
 use Rattle.fk_trace.proofs.Lists.{Contains-filter, find-only, same_by_key}
 
@@ -27,8 +27,8 @@ pub running-children : (past : List Item) (x : Child) → Contains (running past
 running-children [] x h = h
 running-children (item ∷ past) x h =
     elim (Contains-append_cases (still_running item.event (running past)) (begun_by item.event) x h) [
-      inl m ↦ Contains-append_left (children past) (begun_by item.event) x (running-children past x (still_running-Contains item.event (running past) x m))
-    | inr m ↦ Contains-append_right (children past) (begun_by item.event) x m
+      | inl m ↦ Contains-append_left (children past) (begun_by item.event) x (running-children past x (still_running-Contains item.event (running past) x m))
+      | inr m ↦ Contains-append_right (children past) (begun_by item.event) x m
     ]
 
 -- two children of one number are one
@@ -44,7 +44,7 @@ pub child_numbered-running : (past : List Item) → IsOrderly past → (c : Chil
 child_numbered-running past orderly c m =
     let began = running-children past c m in
     find-only (λ child. child.number == c.number) (children past) c began (eq-eqb c.number c.number refl)
-      (λ x n t. same_by_number past orderly x c n began (eqb-true x.number c.number t))
+    (λ x n t. same_by_number past orderly x c n began (eqb-true x.number c.number t))
 
 -- a purpose that is a close of a record is that close, and likewise for an open
 pub close-purpose : (id : ℕ) (purpose : Purpose) → is_close_of id purpose ≡ true → purpose ≡ Close id
@@ -60,7 +60,7 @@ pub orderly-quiet : (past : List Item) (item : Item) → children (item ∷ past
 orderly-quiet past item c r orderly =
     record {
       numbered = rw c orderly.numbered;
-      apart = rw r orderly.apart
+      apart = rw r orderly.apart;
     }
 
 -- a child of a new number, for a purpose for which none runs
@@ -69,12 +69,12 @@ orderly-began past number purpose words moments faults below other orderly =
     record {
       numbered = all_pairs_push (λ a b. a.number < b.number) (children past) (record { number = number; purpose = purpose }) orderly.numbered below;
       apart = all_pairs_push (λ a b. a.purpose ≢ b.purpose) (running past) (record { number = number; purpose = purpose }) orderly.apart
-        (λ k d l. other (get_or (running past) k d) (Contains-get_or (running past) k d l))
+          (λ k d l. other (get_or (running past) k d) (Contains-get_or (running past) k d l));
     }
 
 pub orderly-ended : (past : List Item) (number : ℕ) (good : Bool) (moments faults : ℕ) → IsOrderly past → IsOrderly (record { event = Ended number good; moments = moments; faults = faults } ∷ past)
 orderly-ended past number good moments faults orderly =
     record {
       numbered = rw append-nil orderly.numbered;
-      apart = rw append-nil (AllPairs-filter (λ a b. a.purpose ≢ b.purpose) (λ child. not (child.number == number)) (running past) orderly.apart)
+      apart = rw append-nil (AllPairs-filter (λ a b. a.purpose ≢ b.purpose) (λ child. not (child.number == number)) (running past) orderly.apart);
     }

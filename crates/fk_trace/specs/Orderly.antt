@@ -2,7 +2,7 @@
 use Rattle.std.specs.Prelude.{ℕ, Bool, false, ◌<◌, ◌≢◌, ◌||◌, List, Option, Some, None}
 use Rattle.std.specs.List.{AllPairs, list_any}
 use Rattle.fk_base.specs.declared.purpose.Purpose.{Purpose}
-use Rattle.fk_trace.specs.Trace.{Event, Item, Attempt, attempt_of, children, running, is_open_of, is_close_of}
+use Rattle.fk_trace.specs.Trace.{Item, Attempt, attempt_of, children, running, is_open_of, is_close_of}
 
 -- children are numbered by rising number, and no two that run have one purpose
 pub record IsOrderly (past : List Item) : Type 0 where
