@@ -8,7 +8,8 @@ use Rattle.sha2.specs.Sha256.{sha256}
 use Rattle.sha2.specs.Sha512.{sha384, sha512}
 use Rattle.fk_text.specs.Text.{text_of}
 
--- the hash of a message: MD5 of RFC 1321, the others of FIPS 180-4
+-- The hash of a message: MD5 of RFC 1321, the others of FIPS 180-4. A message of 2 ^ 61 bytes or more, which the
+-- standards leave out, is hashed with its length modulo that.
 unfoldable pub hash_of : HashKind → List ℕ → List ℕ
 hash_of Md5 message = md5 message
 hash_of Sha1 message = sha1 message

@@ -1,5 +1,7 @@
-ghost use Rattle.std.specs.Prelude.{◌≡◌, ◌↔◌, ◌++◌, ◌-◌, ◌≤◌, length, take, replicate, IfOk, IsTrue};
-ghost use Rattle.fk_mac.specs.Hmac.{block_key, block_len, hmac, mac_text, masked};
+ghost use Rattle.std.specs.Prelude.{◌≡◌, ◌↔◌, ◌++◌, ◌-◌, ◌≤◌, ℕ, List, length, take, replicate, IfOk, IsTrue};
+ghost use Rattle.fk_base.specs.HashKind.{hash_len, text_len};
+ghost use Rattle.fk_text.specs.Text.{text_of};
+ghost use Rattle.fk_mac.specs.Hmac.{block_key, block_len, hash_of, hmac, mac_text, masked};
 
 use crate::MacBuf;
 use crate::hashes::{hash, hash_pieces};
@@ -57,6 +59,18 @@ pub fn verify(kind: HashKind, key: &[u8], head: &[u8], tail: &[u8], text: &[u8])
     mac(kind, key, head, tail, &mut out);
     is_text_of(text, out.as_slice())
 }
+
+/// How long each hash, each HMAC and their texts are.
+pub fn codes_have_len()
+    ensures hash { (kind : HashKind) → (message : List ℕ)
+        → length (hash_of kind message) ≡ hash_len kind }
+    ensures hash_text { (kind : HashKind) → (message : List ℕ)
+        → length (text_of (hash_of kind message)) ≡ text_len kind }
+    ensures mac { (kind : HashKind) → (key message : List ℕ)
+        → length (hmac kind key message) ≡ hash_len kind }
+    ensures mac_text { (kind : HashKind) → (key message : List ℕ)
+        → length (mac_text kind key message) ≡ text_len kind }
+{}
 
 fn block_len(kind: HashKind) -> usize
     ensures { result ≡ block_len kind }

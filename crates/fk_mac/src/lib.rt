@@ -13,5 +13,5 @@ mod mac_buf;
 mod tests;
 
 pub use hashes::{hash, hash_text, packet_digest};
-pub use hmac::{mac, mac_text, verify};
+pub use hmac::{codes_have_len, mac, mac_text, verify};
 pub use mac_buf::MacBuf;

@@ -11,7 +11,8 @@ use Rattle.fk_text.specs.declared.text_fault.TextFault.TheVariants.{BadByte, Bad
 use Rattle.fk_text.specs.Text.{IsBytes, IsText, text_of}
 use Rattle.fk_text.specs.TextFault.{IsLetter, letter_number, HasZeroRest, FirstTextFault}
 use Rattle.fk_text.proofs.Letters.{letter_number_below, IsLetter_unless}
-use Rattle.fk_text.proofs.Right.{text_of_one_list, All-text_of, length-text_of, rest-text_of}
+use Rattle.fk_text.proofs.Symbols.{length-text_of}
+use Rattle.fk_text.proofs.Right.{text_of_one_list, All-text_of, rest-text_of}
 use Rattle.fk_text.proofs.Rest.{two_rest, three_rest}
 
 -- what a slice of bytes holds is bytes
@@ -79,7 +80,7 @@ no_fault text NoMemory letters len rest x = x
 -- a text has no fault
 pub text_has_no_fault : (text : List ℕ) (e : TextFault) → IsText text → FirstTextFault text e → ⊥
 text_has_no_fault text e (bytes, are, is) fault =
-    let l = length-text_of bytes are in
+    let l = length-text_of bytes in
     no_fault (text_of bytes) e (All-text_of bytes are) (λ one. absurd (omega arith)) (rest-text_of bytes are) (subst (λ (t : List ℕ). FirstTextFault t e) is fault)
 
 ne_zero : (n : ℕ) (P : Type 0) → P ↔ (n ≡ 0) → MatchBool (not (nat_eq n 0)) (¬ P) P

@@ -6,7 +6,7 @@ use Rattle.base64.specs.Engines.{standard_no_pad}
 use Rattle.fk_text.specs.Text.{IsBytes, IsText, letter_of, text_of}
 use Rattle.fk_text.specs.TextFault.{IsLetter, letter_number, HasZeroRest}
 use Rattle.fk_text.proofs.Letters.{letter_number-letter_of, number_of_letter, letter_from_number, letter_number_below}
-use Rattle.fk_text.proofs.Symbols.{numbers_of, text_of-numbers, text_of-encode_of}
+use Rattle.fk_text.proofs.Symbols.{numbers_of, text_of-numbers, text_of-encode_of, length-text_of}
 use Rattle.fk_text.proofs.Rest.{unused_bits-four, rest_of_none, rest_of_two, rest_of_three}
 
 -- ---- the bytes of a text
@@ -144,16 +144,6 @@ letters_of (a ∷ b ∷ c ∷ bytes) h (suc (suc (suc zero))) d lt =
     letter_at (c % 64) (omega arith)
 letters_of (a ∷ b ∷ c ∷ bytes) h (suc (suc (suc (suc k)))) d lt = letters_of bytes (λ i. h (suc (suc (suc i)))) k d (omega arith)
 
--- a letter for each six bits begun
-length_of : (bytes : List ℕ) → length (map letter_of (numbers_of bytes)) ≡ (8 * length bytes + 5) / 6
-unfolding numbers_of
-length_of [] = refl
-length_of (a ∷ []) = refl
-length_of (a ∷ b ∷ []) = refl
-length_of (a ∷ b ∷ c ∷ bytes) =
-    let others = length_of bytes in
-    omega arith
-
 rest_of : (bytes : List ℕ) → IsBytes bytes → HasZeroRest (map letter_of (numbers_of bytes))
 unfolding numbers_of
 rest_of [] h = rest_of_none
@@ -171,9 +161,6 @@ rest_of (a ∷ b ∷ c ∷ bytes) h =
 
 pub All-text_of : (bytes : List ℕ) → IsBytes bytes → All IsLetter (text_of bytes)
 All-text_of bytes h = subst (λ (t : List ℕ). All IsLetter t) (sym (text_of-numbers bytes h)) (letters_of bytes h)
-
-pub length-text_of : (bytes : List ℕ) → IsBytes bytes → length (text_of bytes) ≡ (8 * length bytes + 5) / 6
-length-text_of bytes h = ap (λ (t : List ℕ). length t) (text_of-numbers bytes h) ∙ length_of bytes
 
 pub rest-text_of : (bytes : List ℕ) → IsBytes bytes → HasZeroRest (text_of bytes)
 rest-text_of bytes h = subst (λ (t : List ℕ). HasZeroRest t) (sym (text_of-numbers bytes h)) (rest_of bytes h)
@@ -224,5 +211,5 @@ pub front_is_text : (bytes over new : List ℕ) (n size : ℕ) → IsBytes bytes
 front_is_text bytes over new n size are is len written =
     let e = text_of-encode_of bytes are in
     let whole : new ≡ text_of bytes ++ drop size over = rw e written in
-    let l = length-text_of bytes are in
+    let l = length-text_of bytes in
     rw (whole, is) (take_at (text_of bytes) (drop size over) size (omega arith))

@@ -1,7 +1,7 @@
 -- A text, cut from one list of bits, is what RFC 4648 does with three bytes at a time.
-use Rattle.std.proofs.Common.{◌≡◌, ℕ, suc, ◌+◌, ◌*◌, ◌/◌, ◌%◌, ◌==◌, ◌<◌, List, [], ◌∷◌, map, refl, sym, ap, ◌∙◌, arith}
+use Rattle.std.proofs.Common.{length, ◌≡◌, ℕ, suc, ◌+◌, ◌*◌, ◌/◌, ◌%◌, ◌==◌, ◌<◌, List, [], ◌∷◌, map, refl, sym, ap, ◌∙◌, arith}
 use Rattle.std.proofs.lemmas.Bool.{eqb-true}
-use Rattle.std.proofs.lemmas.List.{append-nil}
+use Rattle.std.proofs.lemmas.List.{append-nil, length-map}
 use Rattle.base64.specs.Rfc4648.{encode_symbols}
 use Rattle.base64.specs.GeneralPurpose.{encode_of}
 use Rattle.base64.specs.Engines.{standard_no_pad}
@@ -80,3 +80,32 @@ text_of-numbers bytes h = ap (λ ns. map letter_of ns) (group_numbers-bits_of by
 pub text_of-encode_of : (bytes : List ℕ) → IsBytes bytes → text_of bytes ≡ encode_of standard_no_pad bytes
 text_of-encode_of bytes h =
     text_of-numbers bytes h ∙ sym (symbols_by_number bytes) ∙ sym (append-nil (encode_symbols alphabet bytes))
+
+-- eight bits for each byte
+length-bits_of : (bytes : List ℕ) → length (bits_of bytes) ≡ 8 * length bytes
+unfolding bits_of
+length-bits_of [] = refl
+length-bits_of (b ∷ bytes) =
+    let others = length-bits_of bytes in
+    omega arith
+
+-- a number for each six bits begun
+length-group_numbers : (bits : List ℕ) → length (group_numbers bits) ≡ (length bits + 5) / 6
+unfolding group_numbers
+length-group_numbers [] = refl
+length-group_numbers (a ∷ []) = refl
+length-group_numbers (a ∷ b ∷ []) = refl
+length-group_numbers (a ∷ b ∷ c ∷ []) = refl
+length-group_numbers (a ∷ b ∷ c ∷ d ∷ []) = refl
+length-group_numbers (a ∷ b ∷ c ∷ d ∷ e ∷ []) = refl
+length-group_numbers (a ∷ b ∷ c ∷ d ∷ e ∷ f ∷ bits) =
+    let others = length-group_numbers bits in
+    omega arith
+
+-- a letter for each six bits begun
+pub length-text_of : (bytes : List ℕ) → length (text_of bytes) ≡ (8 * length bytes + 5) / 6
+unfolding text_of
+length-text_of bytes =
+    let b = length-bits_of bytes in
+    let g = length-group_numbers (bits_of bytes) in
+    length-map (group_numbers (bits_of bytes)) letter_of ∙ omega arith

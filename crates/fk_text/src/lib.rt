@@ -13,5 +13,5 @@ mod tests;
 mod text;
 mod text_fault;
 
-pub use text::{is_text_of, put_text, take_text, text_of_one_list};
+pub use text::{is_text_of, put_text, take_text, text_has_len, text_of_one_list};
 pub use text_fault::TextFault;

@@ -1,4 +1,4 @@
-ghost use Rattle.std.specs.Prelude.{◌≡◌, ℕ, ◌⊎◌, ◌↔◌, ◌≤◌, List, length, IsTrue, IfOk, IfErr, MatchOption, MatchResult};
+ghost use Rattle.std.specs.Prelude.{◌≡◌, ℕ, ◌⊎◌, ◌↔◌, ◌≤◌, ◌+◌, ◌*◌, ◌/◌, List, length, IsTrue, IfOk, IfErr, MatchOption, MatchResult};
 ghost use Rattle.fk_text.specs.Text.{text_of, IsBytes, IsText};
 ghost use Rattle.fk_text.specs.TextFault.{FirstTextFault};
 
@@ -43,6 +43,11 @@ pub fn is_text_of(text: &[u8], bytes: &[u8]) -> bool
         Err(_) => unreachable!(),
     }
 }
+
+/// A text has a letter for each six bits begun.
+pub fn text_has_len()
+    ensures { (bytes : List ℕ) → length (text_of bytes) ≡ (8 * length bytes + 5) / 6 }
+{}
 
 /// One text is of at most one list of bytes.
 pub fn text_of_one_list()
