@@ -20,20 +20,10 @@ pub fn mac(kind: HashKind, key: &[u8], head: &[u8], tail: &[u8], out: &mut MacBu
     let block = block_key(kind, key);
     let len = block_len(kind);
     let mut inner = MacBuf::new();
-    hash_pieces(
-        kind,
-        &masked(&block, INNER_PAD)[..len],
-        head,
-        tail,
-        &mut inner,
-    );
-    hash_pieces(
-        kind,
-        &masked(&block, OUTER_PAD)[..len],
-        inner.as_slice(),
-        &[],
-        out,
-    );
+    let inside = masked(&block, INNER_PAD);
+    hash_pieces(kind, &inside[..len], head, tail, &mut inner);
+    let outside = masked(&block, OUTER_PAD);
+    hash_pieces(kind, &outside[..len], inner.as_slice(), &[], out);
 }
 
 /// The HMAC of `head` and then `tail` as unpadded base64.

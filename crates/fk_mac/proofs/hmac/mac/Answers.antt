@@ -4,6 +4,6 @@ use Rattle.fk_mac.proofs.hmac.mac.Goals as goal
 
 pub returns : goal.returns
 returns c =
-    hmac_is c.args.kind c.args.key.now c.args.head.now c.args.tail.now c.block_key-block.result c.masked.result c.masked-2.result c.as_slice.result.now _
-    c.block_len-len.result c.block_len-len.ensures c.block_key-block.ensures c.masked.ensures c.masked-2.ensures
+    hmac_is c.args.kind c.args.key.now c.args.head.now c.args.tail.now c.block_key-block.result c.masked-inside.result c.masked-outside.result c.as_slice.result.now _
+    c.block_len-len.result c.block_len-len.ensures c.block_key-block.ensures c.masked-inside.ensures c.masked-outside.ensures
     (c.as_slice.ensures.value ∙ c.hash_pieces.ensures) c.hash_pieces-2.ensures
