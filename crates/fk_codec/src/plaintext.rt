@@ -64,3 +64,6 @@ fn are_plain_parts(parts: &Parts<'_>) -> bool
 {
     is_rand(parts.rand) && is_version(parts.version) && parts.kind == b"1".as_slice()
 }
+
+#[cfg(test)]
+mod tests;
