@@ -11,6 +11,8 @@ mod act;
 mod laws;
 mod machine;
 mod status;
+#[cfg(test)]
+mod tests;
 
 pub use act::{Act, CloseEnd};
 pub use machine::Machine;
