@@ -1,14 +1,13 @@
 -- Of a record that was never attempted the trace says nothing.
-use Rattle.std.proofs.Common.{◌≡◌, ℕ, Bool, true, false, ◌||◌, ◌==◌, cond, List, [], ◌∷◌, ◌++◌, Option, Some, None, refl, sym, ap, ◌∙◌}
+use Rattle.std.proofs.Common.{◌≡◌, ℕ, Bool, true, false, ◌==◌, cond, List, [], ◌∷◌, Option, Some, None, refl, ap, ◌∙◌}
 use Rattle.std.specs.Prelude.{is_some}
 use Rattle.std.specs.List.{find, list_any, Contains}
 use Rattle.std.specs.Option.{option_map}
 use Rattle.std.proofs.lemmas.List.Folds.{list_any-append}
 use Rattle.std.proofs.lemmas.Bool.{or_parts, or_from, false_from_ne_true}
-use Rattle.fk_base.specs.declared.purpose.Purpose.{Purpose}
 use Rattle.fk_trace.specs.Trace.{Event, Item, Child, attempt_of, begun_by, children, running, open_runs, close_tried, is_open_of, is_close_of}
 use Rattle.fk_trace.specs.Trace.Event.{Turn, Began, StartFailed, Ended, Runs, PollFailed}
-use Rattle.fk_trace.specs.Idle.{child_numbered, is_close_child, is_clean, close_end, last_close, moments_before, or_else, first_moment, End}
+use Rattle.fk_trace.specs.Idle.{is_close_child, is_clean, close_end, last_close, moments_before}
 use Rattle.fk_trace.specs.Orderly.{is_of_record, is_attempt_for, is_attempted}
 use Rattle.fk_trace.proofs.Lists.{Contains-head, Contains-tail, list_any-at, list_any-find, list_any-none}
 use Rattle.fk_trace.proofs.Running.{running-children}
@@ -29,8 +28,8 @@ children-untried id [] e = refl
 children-untried id (item ∷ past) e =
     let parts = or_parts (is_attempt_for id (attempt_of item.event)) (is_attempted past id) e in
     list_any-append (λ (child : Child). is_of_record id child.purpose) (children past) (begun_by item.event)
-      ∙ or_from (list_any (λ (child : Child). is_of_record id child.purpose) (children past)) (list_any (λ (child : Child). is_of_record id child.purpose) (begun_by item.event))
-        (children-untried id past parts.1) (begun_by-untried id item.event parts.0)
+    ∙ or_from (list_any (λ (child : Child). is_of_record id child.purpose) (children past)) (list_any (λ (child : Child). is_of_record id child.purpose) (begun_by item.event))
+    (children-untried id past parts.1) (begun_by-untried id item.event parts.0)
 
 child-other : (id : ℕ) (past : List Item) → is_attempted past id ≡ false → (child : Child) → Contains (children past) child → (is_open_of id child.purpose ≡ false) × (is_close_of id child.purpose ≡ false)
 child-other id past e child m =
@@ -39,9 +38,9 @@ child-other id past e child m =
 open-untried : (id : ℕ) (past : List Item) → is_attempted past id ≡ false → open_runs past id ≡ false
 open-untried id past e =
     false_from_ne_true (open_runs past id) (λ runs.
-      let some = list_any-at (λ (child : Child). is_open_of id child.purpose) (running past) runs in
-      let other = child-other id past e some.0 (running-children past some.0 some.1) in
-      absurd (let no = other.0 in let yes = some.2 in cc))
+    let some = list_any-at (λ (child : Child). is_open_of id child.purpose) (running past) runs in
+    let other = child-other id past e some.0 (running-children past some.0 some.1) in
+    absurd (let no = other.0 in let yes = some.2 in cc))
 
 found-none : {X : Type 0} (o : Option X) → (is_some o ≡ true → ⊥) → o ≡ None
 found-none None h = refl
@@ -50,9 +49,9 @@ found-none (Some x) h = absurd (h refl)
 close-untried : (id : ℕ) (past : List Item) → is_attempted past id ≡ false → find (λ child. is_close_of id child.purpose) (running past) ≡ None
 close-untried id past e =
     found-none (find (λ child. is_close_of id child.purpose) (running past)) (λ found.
-      let some = list_any-at (λ (child : Child). is_close_of id child.purpose) (running past) (list_any-find (λ (child : Child). is_close_of id child.purpose) (running past) ∙ found) in
-      let other = child-other id past e some.0 (running-children past some.0 some.1) in
-      absurd (let no = other.1 in let yes = some.2 in cc))
+    let some = list_any-at (λ (child : Child). is_close_of id child.purpose) (running past) (list_any-find (λ (child : Child). is_close_of id child.purpose) (running past) ∙ found) in
+    let other = child-other id past e some.0 (running-children past some.0 some.1) in
+    absurd (let no = other.1 in let yes = some.2 in cc))
 
 is_close_child-found : (id : ℕ) (q : Child → Bool) (cs : List Child) → ((child : Child) → Contains cs child → is_close_of id child.purpose ≡ false) → is_close_child id (find q cs) ≡ false
 is_close_child-found id q [] h = refl

@@ -1,10 +1,10 @@
 -- What ties a machine to the trace: it keeps, for each record whose close is owed, what the trace says of that record.
-use Rattle.std.specs.Prelude.{◌≡◌, ◌≢◌, ℕ, Bool, true, false, not, ◌+◌, ◌<◌, ◌==◌, ◌&&◌, ◌||◌, nat_lt, nat_le, List, [], ◌∷◌, length, map, Option, Some, None, IsTrue}
+use Rattle.std.specs.Prelude.{◌≡◌, ◌≢◌, ℕ, Bool, true, false, not, ◌+◌, ◌==◌, ◌&&◌, ◌||◌, nat_lt, nat_le, List, [], ◌∷◌, length, map, Option, Some, None}
 use Rattle.std.specs.List.{find, filter, list_any, All, AllPairs, Contains}
 use Rattle.std.specs.Option.{option_map}
 use Rattle.fk_base.specs.declared.purpose.Purpose.{Purpose}
 use Rattle.fk_base.specs.declared.purpose.Purpose.TheVariants.{Open, Close}
-use Rattle.fk_trace.specs.Trace.{Event, Item, Child, running, open_runs, close_tried, is_close_of}
+use Rattle.fk_trace.specs.Trace.{Event, Item, running, open_runs, close_tried, is_close_of}
 use Rattle.fk_trace.specs.Trace.Event.{Turn, Began, StartFailed, Ended, Runs, PollFailed}
 use Rattle.fk_trace.specs.Idle.{is_clean, is_idle, last_close}
 use Rattle.fk_trace.specs.Orderly.{IsOrderly}
@@ -24,7 +24,7 @@ kept_of past ends owed =
       open_runs = open_runs past owed.id;
       close = option_map (λ child. is_clean past child.number owed.id) (find (λ child. is_close_of owed.id child.purpose) (running past));
       last_close = last_close past ends owed.id;
-      tried = close_tried past owed.id
+      tried = close_tried past owed.id;
     }
 
 -- how many ends stand before a place

@@ -18,8 +18,7 @@ impl Machine {
         ensures count { (past : List Item) (ends : List ℕ) (live : List Obligation)
             → Stands self.now.kept past ends live
             → length self.now.kept ≡ length live }
-    {
-    }
+    {}
 
     /// It keeps each child that runs.
     pub fn keeps_what_runs(&self)
@@ -27,8 +26,7 @@ impl Machine {
             → Stands self.now.kept past ends live
             → (child : Child) → Contains (running past) child
             → list_any (has_running child.purpose) self.now.kept ≡ true }
-    {
-    }
+    {}
 
     /// An open may begin where no child of a record that is owed runs, and a close where no close of it does.
     pub fn lets_begin(&self)
@@ -40,8 +38,7 @@ impl Machine {
             → Stands self.now.kept past ends live
             → (id : ℕ) → is_owed live id ≡ true → close_runs past id ≡ false
             → list_any (may_begin (Close id)) self.now.kept ≡ true }
-    {
-    }
+    {}
 
     /// A poll that ends no child tells it nothing.
     pub fn stands_over_polls(&self)
@@ -53,6 +50,5 @@ impl Machine {
             → Stands self.now.kept past ends live
             → (number moments faults : ℕ)
             → Stands self.now.kept (record { event = PollFailed number; moments = moments; faults = faults } ∷ past) ends live }
-    {
-    }
+    {}
 }

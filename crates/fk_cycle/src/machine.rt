@@ -111,7 +111,7 @@ impl Machine {
             → Contains (running past) (record { number = number; purpose = purpose })
             → (moments faults : ℕ)
             → (result ≡ act_at past number purpose good)
-                × Stands self.new.kept (record { event = Ended number good; moments = moments; faults = faults } ∷ past) (moment ∷ ends) (owed_after result live) }
+            × Stands self.new.kept (record { event = Ended number good; moments = moments; faults = faults } ∷ past) (moment ∷ ends) (owed_after result live) }
     {
         let act = self.act(purpose, good);
         self.note_ended(purpose, good, moment);
@@ -150,7 +150,9 @@ impl Machine {
     pub fn has_running(&self, purpose: Purpose) -> bool
         ensures { result ≡ list_any (has_running purpose) self.now.kept }
     {
-        self.statuses.iter().any(|status| status.has_running(purpose))
+        self.statuses
+            .iter()
+            .any(|status| status.has_running(purpose))
     }
 
     fn first_ready(&self, moment: Moment) -> Option<Rank>
@@ -238,7 +240,8 @@ fn earlier(first: Option<Rank>, status: &Status, moment: Moment) -> Option<Rank>
         id: status.id(),
     };
     match first {
-        Some(other) if other.due < rank.due || (other.due == rank.due && other.id < rank.id) => first,
+        Some(other) if other.due < rank.due || (other.due == rank.due && other.id < rank.id) =>
+            first,
         _ => Some(rank),
     }
 }

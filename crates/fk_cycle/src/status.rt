@@ -1,4 +1,4 @@
-ghost use Rattle.std.specs.Prelude.{◌≡◌, ℕ, Some, if◌then◌else◌, Option};
+ghost use Rattle.std.specs.Prelude.{◌≡◌, true, not, Some, None};
 ghost use Rattle.fk_trace.specs.Idle.{rests, ended_well};
 ghost use Rattle.fk_cycle.specs.Kept.{fresh, noted_turn, noted_begun, noted_ended, may_begin, has_running, is_ready};
 ghost use Rattle.fk_cycle.specs.Acts.{act_for_close};
@@ -44,12 +44,12 @@ impl Model for Status {
     ghost Value = { Kept };
 
     ghost view = { λ s. record {
-        id = s.id;
-        due = s.due;
-        open_runs = s.open_runs;
-        close = s.close;
-        last_close = s.last_close;
-        tried = s.tried
+      id = s.id;
+      due = s.due;
+      open_runs = s.open_runs;
+      close = s.close;
+      last_close = s.last_close;
+      tried = s.tried;
     } };
 }
 
@@ -89,39 +89,34 @@ impl Status {
         ensures { self.new ≡ noted_begun purpose self.old }
     {
         match purpose {
-            Purpose::Open(id) => {
-                if id == self.id {
-                    self.open_runs = true;
-                }
-            }
-            Purpose::Close(id) => {
-                if id == self.id {
-                    self.close = Some(!self.open_runs);
-                    self.tried = true;
-                }
-            }
+            Purpose::Open(id) if id == self.id => self.open_runs = true,
+            Purpose::Close(id) if id == self.id => self.close_begun(),
+            _ => {}
         }
+    }
+
+    fn close_begun(&mut self)
+        ensures { self.new ≡ record self.old { close = Some (not self.old.open_runs); tried = true } }
+    {
+        self.close = Some(!self.open_runs);
+        self.tried = true;
     }
 
     pub(crate) fn ended(&mut self, purpose: Purpose, good: bool, moment: Moment)
         ensures { self.new ≡ noted_ended purpose good moment self.old }
     {
         match purpose {
-            Purpose::Open(id) => {
-                if id == self.id {
-                    self.open_runs = false;
-                }
-            }
-            Purpose::Close(id) => {
-                if id == self.id {
-                    self.close = None;
-                    self.last_close = Some(LastClose {
-                        good,
-                        moment: moment.get(),
-                    });
-                }
-            }
+            Purpose::Open(id) if id == self.id => self.open_runs = false,
+            Purpose::Close(id) if id == self.id => self.close_ended(good, moment.get()),
+            _ => {}
         }
+    }
+
+    fn close_ended(&mut self, good: bool, moment: u64)
+        ensures { self.new ≡ record self.old { close = None; last_close = Some (record { good = good; moment = moment }) } }
+    {
+        self.close = None;
+        self.last_close = Some(LastClose { good, moment });
     }
 
     /// A child for this purpose may begin.

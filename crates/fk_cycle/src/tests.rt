@@ -57,6 +57,7 @@ fn play(rt: &impl Abort, machine: &mut Machine, step: Step, row: &str) -> Result
 }
 
 const OPEN: Purpose = Purpose::Open(1);
+
 const CLOSE: Purpose = Purpose::Close(1);
 
 #[test]

@@ -5,4 +5,4 @@ use Rattle.fk_cycle.proofs.machine.Machine.note_ended.Goals as goal
 pub loop-status-preserved : goal.loop-status-preserved
 loop-status-preserved c =
     rw (c.ended.ensures, ← c.status-item.is)
-      (map_over_more (noted_ended c.args.purpose c.args.good c.args.moment) c.deref_mut-status-items.result.now c.loop-status.status-items c.loop-status.status-index c.status-item.result c.loop-status-test.true c.loop-status.invariant c.status-item.is)
+    (map_over_more (noted_ended c.args.purpose c.args.good c.args.moment) c.deref_mut-status-items.result.now c.loop-status.status-items c.loop-status.status-index c.status-item.result c.loop-status-test.true c.loop-status.invariant c.status-item.is)
