@@ -3,3 +3,4 @@ pub mod FreshLemmas
 pub mod StandsLemmas
 pub mod ActLemmas
 pub mod RankLemmas
+mod WorkedRow
