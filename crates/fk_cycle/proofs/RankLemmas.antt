@@ -71,7 +71,7 @@ none-not-some f None = refl
 none-not-some f (Some x) = refl
 
 -- what is kept of a record says that a close of it may be attempted exactly where its close is due
-ready-due : (past : List Item) (ends : List ℕ) (moment : ℕ) (owed : Obligation) → is_ready moment (kept_of past ends owed) ≡ is_due past ends moment owed
+pub ready-due : (past : List Item) (ends : List ℕ) (moment : ℕ) (owed : Obligation) → is_ready moment (kept_of past ends owed) ≡ is_due past ends moment owed
 ready-due past ends moment owed =
     let closes : is_none (option_map (λ (child : Child). is_clean past child.number owed.id) (find (λ child. is_close_of owed.id child.purpose) (running past))) ≡ not (close_runs past owed.id) =
     none-not-some (λ (child : Child). is_clean past child.number owed.id) (find (λ child. is_close_of owed.id child.purpose) (running past))

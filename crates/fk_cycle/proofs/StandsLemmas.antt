@@ -136,7 +136,7 @@ module _ (machine : List Kept) (past : List Item) (ends : List ℕ) (live : List
       list_any-at (λ owed. may_begin purpose (kept_of past ends owed)) live some
 
   -- which holds for each obligation of that record, since no record is owed twice
-  may-for : (purpose : Purpose) → list_any (may_begin purpose) machine ≡ true → (owed : Obligation) → Contains live owed → (record_of purpose == owed.id) ≡ true → may_begin purpose (kept_of past ends owed) ≡ true
+  pub may-for : (purpose : Purpose) → list_any (may_begin purpose) machine ≡ true → (owed : Obligation) → Contains live owed → (record_of purpose == owed.id) ≡ true → may_begin purpose (kept_of past ends owed) ≡ true
   may-for purpose h owed m e =
       let some = may-at purpose h in
       let named : record_of purpose ≡ some.0.id = eqb-true (record_of purpose) some.0.id (may_begin-id purpose (kept_of past ends some.0) some.2) in

@@ -1,11 +1,11 @@
 //! What a machine tells that stands for a trace. Each function is a law, and does nothing.
-ghost use Rattle.std.specs.Prelude.{◌≡◌, ℕ, true, false, List, ◌∷◌, length};
-ghost use Rattle.std.specs.List.{list_any, Contains};
+ghost use Rattle.std.specs.Prelude.{◌≡◌, ℕ, ◌<◌, ◌==◌, ◌&&◌, not, true, false, List, ◌∷◌, length};
+ghost use Rattle.std.specs.List.{list_any, All, Contains};
 ghost use Rattle.fk_base.specs.declared.purpose.Purpose.TheVariants.{Open, Close};
-ghost use Rattle.fk_trace.specs.Trace.{Item, Child, running, open_runs, close_runs};
-ghost use Rattle.fk_trace.specs.Trace.Event.{Runs, PollFailed};
+ghost use Rattle.fk_trace.specs.Trace.{Item, Child, children, running, open_runs, close_runs};
+ghost use Rattle.fk_trace.specs.Trace.Event.{Began, Runs, PollFailed};
 ghost use Rattle.fk_cycle.specs.Kept.{may_begin, has_running, is_kept};
-ghost use Rattle.fk_cycle.specs.Stands.{Obligation, Stands, is_owed};
+ghost use Rattle.fk_cycle.specs.Stands.{Obligation, Stands, is_owed, is_due};
 
 use crate::Machine;
 
@@ -38,6 +38,18 @@ impl Machine {
             → Stands self.now.kept past ends live
             → (id : ℕ) → is_owed live id ≡ true → close_runs past id ≡ false
             → list_any (may_begin (Close id)) self.now.kept ≡ true }
+    {}
+
+    /// A close that began is due no more in its turn, and each other record is due as before.
+    pub fn tries_each_once(&self)
+        ensures { (past : List Item) (ends : List ℕ) (live : List Obligation)
+            → Stands self.now.kept past ends live
+            → (id : ℕ) → list_any (may_begin (Close id)) self.now.kept ≡ true
+            → (number : ℕ) → All (λ child. child.number < number) (children past)
+            → (words : List (List ℕ)) (moments faults moment : ℕ) (owed : Obligation)
+            → Contains live owed
+            → is_due (record { event = Began number (Close id) words; moments = moments; faults = faults } ∷ past) ends moment owed
+            ≡ (not (id == owed.id) && is_due past ends moment owed) }
     {}
 
     /// A poll that ends no child tells it nothing.
