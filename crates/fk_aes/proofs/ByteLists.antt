@@ -1,0 +1,118 @@
+-- Lists of bytes: their elements one by one, their sums, and that they stay lists of bytes.
+use Rattle.std.proofs.Common.{◌≡◌, ℕ, zero, suc, ◌+◌, ◌<◌, ◌≤◌, List, [], ◌∷◌, ◌++◌, length, get_or, set, map, take, drop, refl, sym, ap, ◌∙◌, arith, inl, inr}
+use Rattle.std.proofs.lemmas.Bool.{cases_lt}
+use Rattle.std.proofs.lemmas.List.Edits.{map_over_more}
+use Rattle.std.proofs.lemmas.List.{append-nil, drop_all, get_or_default, length-append, length-drop, length-map, length-take, take_all, get_or-map, get_or_past, get_or_append_left, get_or-append_right}
+use Rattle.fk_aes.specs.Field.{◌⊕◌, xor_bytes, IsBytes}
+use Rattle.fk_aes.proofs.FieldLemmas.{xor-below, xor-twice}
+
+-- n elements of a list from place i on, each read by its place
+abbrev pub elements : List ℕ → ℕ → ℕ → List ℕ
+elements s i zero = []
+elements s i (suc n) = get_or s i 0 ∷ elements s (suc i) n
+
+elements-cons : (x : ℕ) (s : List ℕ) (i n : ℕ) → elements (x ∷ s) (suc i) n ≡ elements s i n
+elements-cons x s i zero = refl
+elements-cons x s i (suc n) = ap (λ r. get_or s i 0 ∷ r) (elements-cons x s (suc i) n)
+
+-- a list is its elements
+pub list-elements : (s : List ℕ) (n : ℕ) → length s ≡ n → s ≡ elements s 0 n
+list-elements [] zero h = refl
+list-elements [] (suc n) h = absurd (omega arith)
+list-elements (x ∷ s) zero h = absurd (omega arith)
+list-elements (x ∷ s) (suc n) h =
+    let rest : length s ≡ n = omega arith in
+    ap (λ r. x ∷ r) (list-elements s n rest ∙ sym (elements-cons x s 0 n))
+
+-- each element of a written-out list is a byte
+abbrev pub AllBytes : List ℕ → Type 0
+AllBytes [] = Unit {0}
+AllBytes (x ∷ xs) = (x < 256) × AllBytes xs
+
+pub byte_in : (xs : List ℕ) → AllBytes xs → (k : ℕ) → get_or xs k 0 < 256
+byte_in [] h k = omega arith
+byte_in (x ∷ xs) h zero = h.0
+byte_in (x ∷ xs) h (suc k) = byte_in xs h.1 k
+
+pub written_out : (n : ℕ) (xs : List ℕ) → length xs ≡ n → AllBytes xs → IsBytes n xs
+written_out n xs l h = record { size = l; each = byte_in xs h }
+
+pub IsBytes-map : (f : ℕ → ℕ) (n : ℕ) (xs : List ℕ) → ((b : ℕ) → b < 256 → f b < 256) → IsBytes n xs → IsBytes n (map f xs)
+IsBytes-map f n xs fits h = record {
+  size = length-map xs f ∙ h.size;
+  each = λ k. elim (cases_lt k (length xs)) [
+    | inl lt ↦ rw (get_or-map f xs k 0 0 lt) (fits (get_or xs k 0) (h.each k))
+    | inr ge ↦
+        let past : length (map f xs) ≤ k = omega (arith, length-map xs f) in
+        rw (get_or_past (map f xs) k 0 past) (omega arith)
+  ];
+}
+
+pub IsBytes-append : (m n t : ℕ) (xs ys : List ℕ) → m + n ≡ t → IsBytes m xs → IsBytes n ys → IsBytes t (xs ++ ys)
+IsBytes-append m n t xs ys e hx hy = record {
+  size = omega (arith, length-append xs ys, hx.size, hy.size);
+  each = λ k. elim (cases_lt k (length xs)) [
+    | inl lt ↦ rw (get_or_append_left xs ys 0 k lt) (hx.each k)
+    | inr ge ↦ rw (get_or-append_right xs ys (length xs) k 0 refl ge) (hy.each _)
+  ];
+}
+
+pub length-xor_bytes : (xs ys : List ℕ) → length xs ≡ length ys → length (xor_bytes xs ys) ≡ length xs
+unfolding xor_bytes
+length-xor_bytes [] ys h = refl
+length-xor_bytes (x ∷ xs) [] h = absurd (omega arith)
+length-xor_bytes (x ∷ xs) (y ∷ ys) h =
+    let rest : length xs ≡ length ys = omega arith in
+    ap suc (length-xor_bytes xs ys rest)
+
+pub get_or-xor_bytes : (xs ys : List ℕ) (k : ℕ) → length xs ≡ length ys → get_or (xor_bytes xs ys) k 0 ≡ get_or xs k 0 ⊕ get_or ys k 0
+unfolding xor_bytes
+get_or-xor_bytes [] [] k h = refl
+get_or-xor_bytes [] (y ∷ ys) k h = absurd (omega arith)
+get_or-xor_bytes (x ∷ xs) [] k h = absurd (omega arith)
+get_or-xor_bytes (x ∷ xs) (y ∷ ys) zero h = refl
+get_or-xor_bytes (x ∷ xs) (y ∷ ys) (suc k) h =
+    let rest : length xs ≡ length ys = omega arith in
+    get_or-xor_bytes xs ys k rest
+
+pub IsBytes-xor_bytes : (n : ℕ) (xs ys : List ℕ) → IsBytes n xs → IsBytes n ys → IsBytes n (xor_bytes xs ys)
+IsBytes-xor_bytes n xs ys hx hy =
+    let same : length xs ≡ length ys = hx.size ∙ sym hy.size in
+    record {
+      size = length-xor_bytes xs ys same ∙ hx.size;
+      each = λ k. rw (get_or-xor_bytes xs ys k same) (xor-below _ _ (hx.each k) (hy.each k));
+    }
+
+-- what is added twice is gone
+pub xor_bytes-twice : (xs ys : List ℕ) → length xs ≡ length ys → xor_bytes (xor_bytes xs ys) ys ≡ xs
+unfolding xor_bytes
+xor_bytes-twice [] ys h = refl
+xor_bytes-twice (x ∷ xs) [] h = absurd (omega arith)
+xor_bytes-twice (x ∷ xs) (y ∷ ys) h =
+    let rest : length xs ≡ length ys = omega arith in
+    λ i. xor-twice x y i ∷ xor_bytes-twice xs ys rest i
+
+-- a sum of lists, from its elements
+pub xor_bytes-from_elements : (zs xs ys : List ℕ) → length zs ≡ length xs → length xs ≡ length ys
+    → ((k : ℕ) → k < length zs → get_or zs k 0 ≡ get_or xs k 0 ⊕ get_or ys k 0) → zs ≡ xor_bytes xs ys
+unfolding xor_bytes
+xor_bytes-from_elements [] [] ys lz lx h = refl
+xor_bytes-from_elements [] (x ∷ xs) ys lz lx h = absurd (omega arith)
+xor_bytes-from_elements (z ∷ zs) [] ys lz lx h = absurd (omega arith)
+xor_bytes-from_elements (z ∷ zs) (x ∷ xs) [] lz lx h = absurd (omega arith)
+xor_bytes-from_elements (z ∷ zs) (x ∷ xs) (y ∷ ys) lz lx h =
+    let first : z ≡ x ⊕ y = h 0 (omega arith) in
+    let rest : zs ≡ xor_bytes xs ys =
+    xor_bytes-from_elements zs xs ys (omega arith) (omega arith) (λ k l. h (suc k) (omega arith)) in
+    λ i. first i ∷ rest i
+
+-- ---- a loop that writes f x over each element x of a list
+
+pub map_over-next : (f : ℕ → ℕ) (xs ys : List ℕ) (i : ℕ) → i < length xs → ys ≡ map f (take i xs) ++ drop i xs
+    → set ys i (f (get_or ys i 0)) ≡ map f (take (i + 1) xs) ++ drop (i + 1) xs
+map_over-next f xs ys i l h =
+    map_over_more f xs ys i (get_or ys i 0) l h
+    (get_or_default ys i 0 (get_or ys i 0) (rw h (omega (arith, length-append (map f (take i xs)) (drop i xs), length-map (take i xs) f, length-take i xs, length-drop i xs))))
+
+pub map_over-end : (f : ℕ → ℕ) (xs ys : List ℕ) (i : ℕ) → length xs ≤ i → ys ≡ map f (take i xs) ++ drop i xs → ys ≡ map f xs
+map_over-end f xs ys i l h = h ∙ rw (take_all i xs l, drop_all i xs l, append-nil) refl

@@ -1,0 +1,7 @@
+pub mod FieldLemmas
+pub mod ByteLists
+pub mod SubstitutionLemmas
+mod Columns
+pub mod StateLemmas
+pub mod ScheduleLemmas
+pub mod CipherLaws

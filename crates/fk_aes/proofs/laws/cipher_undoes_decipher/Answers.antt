@@ -1,0 +1,5 @@
+use Rattle.fk_aes.proofs.CipherLaws.{cipher-decipher}
+use Rattle.fk_aes.proofs.laws.cipher_undoes_decipher.Goals as goal
+
+pub returns : goal.returns
+returns c = cipher-decipher

@@ -1,0 +1,5 @@
+pub mod Field
+pub mod Substitution
+pub mod State
+pub mod KeyExpansion
+pub mod Cipher
