@@ -1,6 +1,6 @@
 -- The cipher and the inverse cipher undo each other: after n rounds of the one, the state is where the other was 13 - n
 -- rounds from its start.
-use Rattle.std.proofs.Common.{◌≡◌, ℕ, zero, suc, ◌+◌, ◌-◌, ◌<◌, List, refl, sym, ap, ◌∙◌, arith}
+use Rattle.std.proofs.Common.{◌≡◌, ℕ, zero, suc, ◌+◌, ◌-◌, ◌<◌, List, refl, ap, ◌∙◌, arith}
 use Rattle.fk_aes.specs.Cipher.{after_inv_rounds, after_rounds, cipher, cipher_by, decipher, decipher_by}
 use Rattle.fk_aes.specs.Field.{IsBytes}
 use Rattle.fk_aes.specs.KeyExpansion.{key_expansion}

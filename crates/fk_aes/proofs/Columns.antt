@@ -1,5 +1,5 @@
 -- The matrices of MixColumns and InvMixColumns undo each other, column by column.
-use Rattle.std.proofs.Common.{◌≡◌, ℕ, ◌<◌, List, [], ◌∷◌, refl, ap, ◌∙◌, arith}
+use Rattle.std.proofs.Common.{◌≡◌, ℕ, ◌<◌, [], ◌∷◌, refl, ap, ◌∙◌, arith}
 use lib.Bits.{xor_zero_r}
 use Rattle.fk_aes.specs.Field.{◌⊕◌, ◌•◌, xtime, product_by_bits, IsBytes}
 use Rattle.fk_aes.specs.State.{row_times, mix_column, inv_mix_column}

@@ -5,3 +5,4 @@ mod Columns
 pub mod StateLemmas
 pub mod ScheduleLemmas
 pub mod CipherLaws
+mod Vectors

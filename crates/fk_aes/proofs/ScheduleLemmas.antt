@@ -1,5 +1,5 @@
 -- The key schedule: its words are bytes, and each depends only on those before it.
-use Rattle.std.proofs.Common.{◌≡◌, ℕ, zero, suc, ◌+◌, ◌-◌, ◌*◌, ◌/◌, ◌%◌, ◌<◌, ◌≤◌, ◌==◌, Bool, true, false, List, [], ◌∷◌, ◌++◌, length, get_or, slice_index, set, map, take, refl, sym, ap, ◌∙◌, arith, append_assoc}
+use Rattle.std.proofs.Common.{◌≡◌, ℕ, zero, suc, ◌+◌, ◌-◌, ◌*◌, ◌/◌, ◌%◌, ◌<◌, ◌≤◌, ◌==◌, Bool, true, false, List, [], ◌∷◌, ◌++◌, length, get_or, slice_index, set, take, refl, sym, ap, ◌∙◌, arith, append_assoc}
 use Rattle.std.specs.Prelude.{if◌then◌else◌}
 use Rattle.std.proofs.lemmas.Bool.{agree_below_at, eqb-true}
 use Rattle.std.proofs.lemmas.List.{get_or-take, length-append, length-map, length-set, take-append-le, take_all, take_more_set}
@@ -7,7 +7,7 @@ use Rattle.fk_aes.specs.declared.expansion.TheConstants.{ROUND_CONSTANTS}
 use Rattle.fk_aes.specs.Field.{IsBytes, xtime}
 use Rattle.fk_aes.specs.KeyExpansion.{addend, first_words, key_expansion, next_word, power_of_x, rot_word, round_constant, sub_word, word_at}
 use Rattle.fk_aes.specs.Substitution.{sub_byte}
-use Rattle.fk_aes.proofs.ByteLists.{IsBytes-append, IsBytes-map, IsBytes-xor_bytes, elements, length-xor_bytes, list-elements, written_out}
+use Rattle.fk_aes.proofs.ByteLists.{IsBytes-append, IsBytes-map, IsBytes-xor_bytes, length-xor_bytes, list-elements, written_out}
 use Rattle.fk_aes.proofs.FieldLemmas.{xtime-below}
 use Rattle.fk_aes.proofs.SubstitutionLemmas.{sub_byte-below}
 

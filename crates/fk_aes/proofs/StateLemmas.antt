@@ -1,11 +1,11 @@
 -- Each transformation of the state keeps lists of 16 bytes, and is undone by its inverse.
-use Rattle.std.proofs.Common.{◌≡◌, ℕ, zero, suc, ◌+◌, ◌*◌, ◌<◌, ◌≤◌, List, [], ◌∷◌, ◌++◌, length, get_or, map, take, drop, refl, sym, ap, ◌∙◌, arith, inl, inr}
+use Rattle.std.proofs.Common.{◌≡◌, ℕ, suc, ◌+◌, ◌*◌, ◌<◌, ◌≤◌, List, [], ◌∷◌, ◌++◌, length, get_or, map, drop, refl, sym, ◌∙◌, arith, inl, inr}
 use Rattle.std.proofs.lemmas.Bool.{cases_lt}
 use Rattle.std.proofs.lemmas.List.{length-take, length-drop, get_or-take, get_or-drop, get_or_past}
 use Rattle.fk_aes.specs.Field.{IsBytes}
-use Rattle.fk_aes.specs.State.{add_round_key, at_column, inv_mix_column, inv_mix_columns, inv_shift_rows, inv_sub_bytes, mix_column, mix_columns, round_key, shift_rows, sub_bytes}
+use Rattle.fk_aes.specs.State.{add_round_key, inv_mix_column, inv_mix_columns, inv_shift_rows, inv_sub_bytes, mix_column, mix_columns, round_key, shift_rows, sub_bytes}
 use Rattle.fk_aes.specs.Substitution.{sub_byte, inv_sub_byte}
-use Rattle.fk_aes.proofs.ByteLists.{IsBytes-append, IsBytes-map, IsBytes-xor_bytes, elements, list-elements, written_out, xor_bytes-twice}
+use Rattle.fk_aes.proofs.ByteLists.{IsBytes-append, IsBytes-map, IsBytes-xor_bytes, list-elements, written_out, xor_bytes-twice}
 use Rattle.fk_aes.proofs.Columns.{IsBytes-inv_mix_column, IsBytes-mix_column, inv_mix_column-mix_column, mix_column-inv_mix_column}
 use Rattle.fk_aes.proofs.SubstitutionLemmas.{inv_sub_byte-below, inv_sub_byte-sub_byte, sub_byte-below, sub_byte-inv_sub_byte}
 

@@ -1,5 +1,5 @@
 -- The tables of the code hold the values of the substitution and of its inverse, and each undoes the other.
-use Rattle.std.proofs.Common.{◌≡◌, ℕ, ◌<◌, ◌==◌, slice_index, refl, sym, ap, ◌∙◌}
+use Rattle.std.proofs.Common.{◌≡◌, ℕ, ◌<◌, slice_index, refl, sym, ap, ◌∙◌}
 use Rattle.fk_aes.specs.declared.tables.TheConstants.{SUBSTITUTION, INVERSE_SUBSTITUTION}
 use Rattle.fk_aes.specs.Field.{◌•◌, xtime, product_by_bits, inverse, last_below}
 use Rattle.fk_aes.specs.Substitution.{affine, affine_bits, inverse_affine, sub_byte, inv_sub_byte}

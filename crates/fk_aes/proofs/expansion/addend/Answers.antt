@@ -1,4 +1,4 @@
-use Rattle.std.proofs.Common.{refl, eq-eqb}
+use Rattle.std.proofs.Common.{refl}
 use Rattle.std.proofs.lemmas.Bool.{ne_eqb}
 use Rattle.fk_aes.specs.KeyExpansion.{addend}
 use Rattle.fk_aes.proofs.expansion.addend.Goals as goal

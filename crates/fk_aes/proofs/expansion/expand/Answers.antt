@@ -1,4 +1,4 @@
-use Rattle.std.proofs.Common.{◌≡◌, ◌+◌, ◌*◌, ◌++◌, ℕ, List, length, take, arith, rules, ap, sym, ◌∙◌}
+use Rattle.std.proofs.Common.{◌≡◌, ◌+◌, ◌*◌, ◌++◌, ℕ, List, take, arith, rules, ap, sym, ◌∙◌}
 use Rattle.std.proofs.lemmas.List.{length-append, take_all, take_at}
 use Rattle.fk_aes.specs.KeyExpansion.{first_words, key_expansion}
 use Rattle.fk_aes.proofs.ScheduleLemmas.{first_words-more}

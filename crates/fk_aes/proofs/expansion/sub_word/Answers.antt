@@ -1,6 +1,6 @@
-use Rattle.std.proofs.Common.{◌≡◌, length, refl, rules, sym, map, List, ℕ, ◌∙◌, ap}
+use Rattle.std.proofs.Common.{◌≡◌, length, rules, sym, map, ap}
 use Rattle.fk_aes.specs.Substitution.{sub_byte}
-use Rattle.fk_aes.proofs.ByteLists.{elements, list-elements}
+use Rattle.fk_aes.proofs.ByteLists.{list-elements}
 use Rattle.fk_aes.proofs.expansion.sub_word.Goals as goal
 
 pub returns : goal.returns

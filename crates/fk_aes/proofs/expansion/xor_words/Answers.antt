@@ -1,6 +1,6 @@
-use Rattle.std.proofs.Common.{◌≡◌, length, refl, rules, sym, List, ℕ, ◌∙◌, ap}
+use Rattle.std.proofs.Common.{◌≡◌, length, rules, sym}
 use Rattle.fk_aes.specs.Field.{xor_bytes}
-use Rattle.fk_aes.proofs.ByteLists.{elements, list-elements}
+use Rattle.fk_aes.proofs.ByteLists.{list-elements}
 use Rattle.fk_aes.proofs.expansion.xor_words.Goals as goal
 
 pub returns : goal.returns

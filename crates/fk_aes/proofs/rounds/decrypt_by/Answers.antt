@@ -1,4 +1,4 @@
-use Rattle.std.proofs.Common.{◌≡◌, ◌+◌, ◌-◌, suc, refl, sym, arith, ◌∙◌}
+use Rattle.std.proofs.Common.{◌≡◌, ◌-◌, suc, refl, sym, arith, ◌∙◌}
 use Rattle.fk_aes.proofs.CipherLaws.{after_inv_rounds-suc, after_inv_rounds-zero, decipher_by-is}
 use Rattle.fk_aes.proofs.rounds.decrypt_by.Goals as goal
 
