@@ -59,6 +59,14 @@ module _ (w block : List ℕ) (hw : IsBytes 240 w) (hb : IsBytes 16 block) where
   IsBytes-after_inv_rounds zero = rw after_inv_rounds-zero (IsBytes-add_round_key block w 14 (omega arith) hw hb)
   IsBytes-after_inv_rounds (suc n) = rw after_inv_rounds-suc (IsBytes-inv_mix_columns _)
 
+  IsBytes-cipher_by : IsBytes 16 (cipher_by w block)
+  IsBytes-cipher_by =
+      rw cipher_by-is (IsBytes-add_round_key _ w 14 (omega arith) hw (IsBytes-half_round _ (IsBytes-after_rounds 13 (omega arith))))
+
+  IsBytes-decipher_by : IsBytes 16 (decipher_by w block)
+  IsBytes-decipher_by =
+      rw decipher_by-is (IsBytes-add_round_key _ w 0 (omega arith) hw (IsBytes-inv_half_round _ (IsBytes-after_inv_rounds 13)))
+
   -- the inverse cipher on its way back through the states of the cipher
   inverse_meets : (n m : ℕ) → n + m ≡ 13 → after_inv_rounds w (cipher_by w block) n ≡ shift_rows (sub_bytes (after_rounds w block m))
   inverse_meets zero m e =
@@ -97,6 +105,14 @@ module _ (w block : List ℕ) (hw : IsBytes 240 w) (hb : IsBytes 16 block) where
   cipher_by-decipher_by =
       rw (cipher_by-is, cipher_meets 13 0 refl, back_and_there (after_inv_rounds w block 0) (IsBytes-after_inv_rounds 0), after_inv_rounds-zero)
       (add_round_key-twice block w 14 (omega arith) hw hb)
+
+pub IsBytes-cipher : (key block : List ℕ) → IsBytes 32 key → IsBytes 16 block → IsBytes 16 (cipher key block)
+unfolding cipher
+IsBytes-cipher key block hk hb = IsBytes-cipher_by (key_expansion key) block (IsBytes-key_expansion key hk) hb
+
+pub IsBytes-decipher : (key block : List ℕ) → IsBytes 32 key → IsBytes 16 block → IsBytes 16 (decipher key block)
+unfolding decipher
+IsBytes-decipher key block hk hb = IsBytes-decipher_by (key_expansion key) block (IsBytes-key_expansion key hk) hb
 
 pub decipher-cipher : (key block : List ℕ) → IsBytes 32 key → IsBytes 16 block → decipher key (cipher key block) ≡ block
 unfolding cipher decipher

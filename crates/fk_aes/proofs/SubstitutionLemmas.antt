@@ -5,6 +5,11 @@ use Rattle.fk_aes.specs.Field.{◌•◌, xtime, product_by_bits, inverse, last_
 use Rattle.fk_aes.specs.Substitution.{affine, affine_bits, inverse_affine, sub_byte, inv_sub_byte}
 use Rattle.fk_aes.proofs.FieldLemmas.{byte_at_each, same_at}
 
+-- the affine map takes a byte's inverse image to it
+pub affine-inverse_affine : (b : ℕ) → b < 256 → affine (inverse_affine b) ≡ b
+unfolding inverse_affine affine affine_bits last_below
+affine-inverse_affine = same_at (λ b. affine (inverse_affine b)) (λ b. b) refl
+
 -- the entry of each byte in the table is its substitution
 pub substitution-entry : (b : ℕ) → b < 256 → slice_index SUBSTITUTION b ≡ sub_byte b
 unfolding sub_byte affine affine_bits inverse last_below ◌•◌ product_by_bits xtime

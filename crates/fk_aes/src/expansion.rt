@@ -1,3 +1,5 @@
+// The key expansion (FIPS 197, section 5.2).
+
 ghost use Rattle.std.specs.Prelude.{◌≡◌, ◌≤◌, ◌<◌, ◌+◌, ◌*◌, ◌++◌, ◌/◌, length, take, drop};
 ghost use Rattle.fk_aes.specs.Field.{xor_bytes};
 ghost use Rattle.fk_aes.specs.KeyExpansion.{addend, key_expansion, next_word, rot_word, round_constant, sub_word, word_at};
@@ -85,7 +87,7 @@ fn put_word(schedule: &mut [u8; 240], i: usize, word: [u8; 4])
     schedule[4 * i + 3] = word[3];
 }
 
-/// The key schedule of a key (FIPS 197, section 5.2).
+/// The key schedule of a key, word after word.
 pub(crate) fn expand(key: &[u8; 32]) -> [u8; 240]
     ensures { result ≡ key_expansion key.now }
 {

@@ -1,3 +1,5 @@
+// The transformations of the state, in place (FIPS 197, sections 5.1 and 5.3).
+
 ghost use Rattle.std.specs.Prelude.{◌≡◌, ◌<◌, length};
 ghost use Rattle.fk_aes.specs.Field.{xor_bytes};
 ghost use Rattle.fk_aes.specs.State.{add_round_key, at_column, inv_mix_column, inv_mix_columns, inv_shift_rows, inv_sub_bytes, mix_column, mix_columns, shift_rows, sub_bytes};
