@@ -19,6 +19,7 @@ pub(crate) fn encrypt_by(schedule: &[u8; 240], block: &mut [u8; 16])
     }
     sub_bytes(block);
     shift_rows(block);
+    // Round 14 has no MixColumns.
     add_round_key(block, schedule, 14);
 }
 
@@ -35,5 +36,6 @@ pub(crate) fn decrypt_by(schedule: &[u8; 240], block: &mut [u8; 16])
     }
     inv_shift_rows(block);
     inv_sub_bytes(block);
+    // The last round has no InvMixColumns.
     add_round_key(block, schedule, 0);
 }
