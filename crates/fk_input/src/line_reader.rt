@@ -31,7 +31,7 @@ pub enum NextLine {
 #[derive(Drop)]
 pub struct LineReader {
     ahead: Ahead,
-    line: [u8; 1600],
+    line: [u8; MAX_LINE],
     len: usize,
     offset: u64,
     ended: bool,
@@ -39,14 +39,15 @@ pub struct LineReader {
 
 impl Model for LineReader {
     ghost use Rattle.std.specs.Prelude.{◌≡◌, ◌+◌, ◌≤◌, take, length, true, []};
+    ghost use Rattle.fk_input.specs.Lines.{line_limit, input_limit};
     ghost use Rattle.fk_input.specs.Reading.{Reading};
 
     ghost Value = { Reading };
 
     ghost view = { λ r. record { pending = r.ahead; line = take r.len r.line; offset = r.offset; ended = r.ended } };
 
-    ghost invariant = { λ r. (r.len ≤ 1600)
-        × (r.offset + length r.ahead ≤ 67108865)
+    ghost invariant = { λ r. (r.len ≤ line_limit)
+        × (r.offset + length r.ahead ≤ input_limit + 1)
         × (r.ended ≡ true → r.ahead ≡ []) };
 }
 
