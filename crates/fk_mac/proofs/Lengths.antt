@@ -1,5 +1,5 @@
 -- How long hashes, codes and their texts are.
-use Rattle.std.proofs.Common.{◌≡◌, ℕ, zero, suc, ◌+◌, ◌*◌, List, length, slice_index, refl, ◌∙◌, ap, arith, length-append, w32}
+use Rattle.std.proofs.Common.{◌≡◌, ℕ, zero, suc, ◌*◌, List, length, slice_index, refl, arith, length-append, w32}
 use Rattle.std.specs.Int.{to_be_bytes}
 use Rattle.sha1.specs.Sha1.{sha1, digest_bytes}
 use Rattle.md5.proofs.StandardFacts.{length-md5}

@@ -1,4 +1,4 @@
-ghost use Rattle.std.specs.Prelude.{◌≡◌, ◌++◌, ◌≤◌, length, IfOk};
+ghost use Rattle.std.specs.Prelude.{◌≡◌, ◌++◌, IfOk};
 ghost use Rattle.fk_text.specs.Text.{text_of};
 ghost use Rattle.fk_mac.specs.Hmac.{hash_of, packet_digest};
 ghost use Rattle.md5.specs.Md5.{md5};
