@@ -1,23 +1,19 @@
 -- A digest's text: its letters, its length, and that the length names the hash.
-use Rattle.std.proofs.Common.{◌≡◌, ℕ, zero, suc, ◌+◌, ◌*◌, ◌/◌, false, not, List, [], ◌∷◌, length, get_or, Some, refl, ap, ◌∙◌, arith, inl, inr}
-use Rattle.std.specs.Prelude.{◌==◌, slice_index}
+use Rattle.std.proofs.Common.{◌≡◌, ℕ, false, not, List, length, get_or, Some, refl, ap, ◌∙◌, inl, inr}
+use Rattle.std.specs.Prelude.{◌==◌}
 use Rattle.std.specs.Str.{bytes_eq}
-use Rattle.std.specs.Int.{w32, to_be_bytes}
 use Rattle.std.proofs.lemmas.Bool.{cases_lt, not-true}
-use Rattle.std.proofs.lemmas.List.{get_or_past, length-append, length-map}
+use Rattle.std.proofs.lemmas.List.{get_or_past}
 use Rattle.std.proofs.lemmas.List.Elements.{All-map}
 use Rattle.std.proofs.lemmas.Option.{option_and_then_some, cond_some}
 use Rattle.std.proofs.lemmas.Slice.Eq.{bytes_eq-Decides}
 use Rattle.base64.proofs.Tables.{all_below_at}
-use Rattle.md5.proofs.StandardFacts.{length-md5}
-use Rattle.sha1.specs.Sha1.{digest_bytes, sha1}
-use Rattle.sha2.proofs.Facts256.{length-sha256}
-use Rattle.sha2.proofs.Facts512.{length-sha384, length-sha512}
 use Rattle.fk_base.specs.declared.hash_kind.HashKind.{HashKind}
 use Rattle.fk_base.specs.declared.hash_kind.HashKind.TheVariants.{Md5, Sha1, Sha256, Sha384, Sha512}
-use Rattle.fk_base.specs.HashKind.{hash_len, text_len}
+use Rattle.fk_base.specs.HashKind.{text_len}
 use Rattle.fk_text.specs.Text.{alphabet, letter_of, bits_of, group_numbers, text_of}
 use Rattle.fk_mac.specs.Hmac.{hash_of}
+use Rattle.fk_mac.proofs.Lengths.{length-hash_of, length-text}
 use Rattle.fk_codec.specs.Fields.{digest_text}
 use Rattle.fk_codec.specs.Cutting.{kind_by_len, kind_in}
 use Rattle.fk_codec.proofs.Joined.{Lacks}
@@ -33,37 +29,8 @@ pub Lacks-text_of : (bytes : List ℕ) → Lacks 58 (text_of bytes)
 unfolding text_of
 Lacks-text_of bytes = All-map (λ x. (x == 58) ≡ false) letter_of (group_numbers (bits_of bytes)) (λ k d lt. letter_apart (get_or (group_numbers (bits_of bytes)) k d))
 
-length-group_numbers : (bytes : List ℕ) → length (group_numbers (bits_of bytes)) ≡ (8 * length bytes + 5) / 6
-unfolding group_numbers bits_of
-length-group_numbers [] = refl
-length-group_numbers (a ∷ []) = refl
-length-group_numbers (a ∷ b ∷ []) = refl
-length-group_numbers (a ∷ b ∷ c ∷ bytes) = let others = length-group_numbers bytes in omega arith
-
-pub length-text_of : (bytes : List ℕ) → length (text_of bytes) ≡ (8 * length bytes + 5) / 6
-unfolding text_of
-length-text_of bytes = length-map (group_numbers (bits_of bytes)) letter_of ∙ length-group_numbers bytes
-
-length-digest_bytes : (h : List ℕ) (n : ℕ) → length (digest_bytes h n) ≡ n * 4
-unfolding digest_bytes
-length-digest_bytes h zero = refl
-length-digest_bytes h (suc n) =
-    let before = length-digest_bytes h n in
-    let last : length (to_be_bytes w32 (slice_index h n)) ≡ 4 = refl in
-    let both = length-append (digest_bytes h n) (to_be_bytes w32 (slice_index h n)) in
-    omega arith
-
-length-hash_of : (kind : HashKind) (message : List ℕ) → length (hash_of kind message) ≡ hash_len kind
-unfolding hash_of sha1
-length-hash_of Md5 message = length-md5 message
-length-hash_of Sha1 message = length-digest_bytes _ 5
-length-hash_of Sha256 message = length-sha256 message
-length-hash_of Sha384 message = length-sha384 message
-length-hash_of Sha512 message = length-sha512 message
-
 length-digest_text : (kind : HashKind) (front : List ℕ) → length (digest_text kind front) ≡ text_len kind
-length-digest_text kind front =
-    length-text_of (hash_of kind front) ∙ ap (λ n. (8 * n + 5) / 6) (length-hash_of kind front)
+length-digest_text kind front = length-text kind (hash_of kind front) (length-hash_of kind front)
 
 pub kind_by_len-text_len : (kind : HashKind) → kind_by_len (text_len kind) ≡ Some kind
 kind_by_len-text_len Md5 = refl

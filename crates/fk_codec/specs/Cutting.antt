@@ -1,4 +1,4 @@
--- The fields that a plaintext gives, found by cutting it. That these are the fields that spell it is the law of `plaintext_is_read`.
+-- The fields that a plaintext gives, found by cutting it. By `plaintext_law` they are exactly the fields that spell it.
 use Rattle.std.specs.Prelude.{ℕ, suc, Bool, ◌&&◌, ◌==◌, if◌then◌else◌, List, [], ◌∷◌, length, codes, Option, Some, None}
 use Rattle.std.proofs.Common.{zero-le, suc-le-suc}
 use Rattle.std.specs.List.{slice_split, join_with_byte, find}

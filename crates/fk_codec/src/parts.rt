@@ -9,7 +9,7 @@ pub(crate) struct Parts<'a> {
     pub(crate) user: &'a [u8],
     pub(crate) stamp: &'a [u8],
     pub(crate) version: &'a [u8],
-    pub(crate) kind: &'a [u8],
+    pub(crate) message_type: &'a [u8],
     pub(crate) message: &'a [u8],
     pub(crate) digest: &'a [u8],
     pub(crate) front: &'a [u8],
@@ -18,16 +18,16 @@ pub(crate) struct Parts<'a> {
 /// `None` unless there are exactly seven parts.
 pub(crate) fn cut_parts(text: &[u8]) -> Option<Parts<'_>>
     ensures parts { MatchOption result (length (parts_at 58 text.now) ≢ 7)
-        (λ p. parts_at 58 text.now ≡ p.rand.now ∷ p.user.now ∷ p.stamp.now ∷ p.version.now ∷ p.kind.now
+        (λ p. parts_at 58 text.now ≡ p.rand.now ∷ p.user.now ∷ p.stamp.now ∷ p.version.now ∷ p.message_type.now
         ∷ p.message.now ∷ p.digest.now ∷ []) }
     ensures front { IfSome result (λ p. p.front.now
-        ≡ join_with_byte 58 (p.rand.now ∷ p.user.now ∷ p.stamp.now ∷ p.version.now ∷ p.kind.now ∷ p.message.now ∷ [])) }
+        ≡ join_with_byte 58 (p.rand.now ∷ p.user.now ∷ p.stamp.now ∷ p.version.now ∷ p.message_type.now ∷ p.message.now ∷ [])) }
 {
     let (rand, rest) = cut(text, b':')?;
     let (user, rest) = cut(rest, b':')?;
     let (stamp, rest) = cut(rest, b':')?;
     let (version, rest) = cut(rest, b':')?;
-    let (kind, rest) = cut(rest, b':')?;
+    let (message_type, rest) = cut(rest, b':')?;
     let (message, digest) = cut(rest, b':')?;
     if cut(digest, b':').is_some() {
         return None;
@@ -37,7 +37,7 @@ pub(crate) fn cut_parts(text: &[u8]) -> Option<Parts<'_>>
         user,
         stamp,
         version,
-        kind,
+        message_type,
         message,
         digest,
         front: before_last(text, digest),

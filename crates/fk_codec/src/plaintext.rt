@@ -40,7 +40,7 @@ pub fn plaintext_law()
 
 fn read_parts(alloc: Global, parts: &Parts<'_>) -> Result<Option<Plaintext>, NoMemory>
     ensures { IfOk result (λ read. read ≡ option_map summary_of (fields_of_seven parts.now.front.now parts.now.rand.now
-        parts.now.user.now parts.now.stamp.now parts.now.version.now parts.now.kind.now parts.now.message.now
+        parts.now.user.now parts.now.stamp.now parts.now.version.now parts.now.message_type.now parts.now.message.now
         parts.now.digest.now)) }
 {
     if !are_plain_parts(parts) || !is_digest_of(parts.digest, parts.front) {
@@ -60,9 +60,9 @@ fn read_parts(alloc: Global, parts: &Parts<'_>) -> Result<Option<Plaintext>, NoM
 
 /// Whether the parts that stand for themselves are within their rules.
 fn are_plain_parts(parts: &Parts<'_>) -> bool
-    ensures { result ≡ are_plain_parts parts.now.rand.now parts.now.version.now parts.now.kind.now }
+    ensures { result ≡ are_plain_parts parts.now.rand.now parts.now.version.now parts.now.message_type.now }
 {
-    is_rand(parts.rand) && is_version(parts.version) && parts.kind == b"1".as_slice()
+    is_rand(parts.rand) && is_version(parts.version) && parts.message_type == b"1".as_slice()
 }
 
 #[cfg(test)]

@@ -10,11 +10,11 @@ returns-then-is_some-clause-parts c =
     let b = c.in_ok-user.ensures in
     let d = c.in_ok-stamp.ensures in
     let e = c.in_ok-version.ensures in
-    let f = c.in_ok-kind.ensures in
+    let f = c.in_ok-message_type.ensures in
     let g = c.in_ok-message.ensures in
     let more = two_parts c.cut-7.result (λ h. h.0.now) (λ h. h.1.now) c.in_ok-message.digest.now (sym c.if-is_some.ensures) c.cut-7.ensures in
     let all : parts_at 58 c.args.text.now ≡ c.in_ok-rand.rand.now ∷ c.in_ok-user.user.now ∷ c.in_ok-stamp.stamp.now ∷ c.in_ok-version.version.now
-    ∷ c.in_ok-kind.kind.now ∷ c.in_ok-message.message.now ∷ parts_at 58 c.in_ok-message.digest.now = cc in
+    ∷ c.in_ok-message_type.message_type.now ∷ c.in_ok-message.message.now ∷ parts_at 58 c.in_ok-message.digest.now = cc in
     λ seven. let eight = rw all at seven in omega arith
 
 pub before_last-requires : goal.before_last-requires
@@ -23,13 +23,13 @@ before_last-requires c =
     let b = c.in_ok-user.ensures in
     let d = c.in_ok-stamp.ensures in
     let e = c.in_ok-version.ensures in
-    let f = c.in_ok-kind.ensures in
+    let f = c.in_ok-message_type.ensures in
     let g = c.in_ok-message.ensures in
     let last : parts_at 58 c.in_ok-message.digest.now ≡ c.in_ok-message.digest.now ∷ [] = search rules in
     let seven : parts_at 58 c.args.text.now ≡ c.in_ok-rand.rand.now ∷ c.in_ok-user.user.now ∷ c.in_ok-stamp.stamp.now ∷ c.in_ok-version.version.now
-    ∷ c.in_ok-kind.kind.now ∷ c.in_ok-message.message.now ∷ c.in_ok-message.digest.now ∷ [] = cc in (
+    ∷ c.in_ok-message_type.message_type.now ∷ c.in_ok-message.message.now ∷ c.in_ok-message.digest.now ∷ [] = cc in (
       join_with_byte 58 (c.in_ok-rand.rand.now ∷ c.in_ok-user.user.now ∷ c.in_ok-stamp.stamp.now ∷ c.in_ok-version.version.now
-          ∷ c.in_ok-kind.kind.now ∷ c.in_ok-message.message.now ∷ []),
+          ∷ c.in_ok-message_type.message_type.now ∷ c.in_ok-message.message.now ∷ []),
       front_and_last c.args.text.now _ _ _ _ _ _ _ seven,
     )
 
@@ -39,9 +39,9 @@ returns-clause-front c =
     let b = c.in_ok-user.ensures in
     let d = c.in_ok-stamp.ensures in
     let e = c.in_ok-version.ensures in
-    let f = c.in_ok-kind.ensures in
+    let f = c.in_ok-message_type.ensures in
     let g = c.in_ok-message.ensures in
     let last : parts_at 58 c.in_ok-message.digest.now ≡ c.in_ok-message.digest.now ∷ [] = search rules in
     let seven : parts_at 58 c.args.text.now ≡ c.in_ok-rand.rand.now ∷ c.in_ok-user.user.now ∷ c.in_ok-stamp.stamp.now ∷ c.in_ok-version.version.now
-    ∷ c.in_ok-kind.kind.now ∷ c.in_ok-message.message.now ∷ c.in_ok-message.digest.now ∷ [] = cc in
+    ∷ c.in_ok-message_type.message_type.now ∷ c.in_ok-message.message.now ∷ c.in_ok-message.digest.now ∷ [] = cc in
     front_is c.args.text.now _ _ _ _ _ _ _ c.before_last.result.now seven c.before_last.ensures
