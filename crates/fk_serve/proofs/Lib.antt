@@ -1,0 +1,11 @@
+pub mod Places
+pub mod PollLemmas
+pub mod OpenLemmas
+pub mod ClosePlaces
+pub mod CloseLemmas
+pub mod AdmissionLemmas
+pub mod AnswerLemmas
+pub mod CommandWords
+pub mod TurnLines
+pub mod BeginLemmas
+pub mod TurnLemmas

@@ -1,0 +1,5 @@
+pub mod Turns
+pub mod Command
+pub mod Rules
+pub mod Trial
+pub mod Run
