@@ -57,6 +57,17 @@ impl Bytes {
     }
 }
 
+impl From<Vec<u8>> for Bytes {
+    ghost use Rattle.std.specs.Prelude.{◌≡◌};
+
+    ghost from_gives = { λ v b. b ≡ v.items };
+
+    /// The bytes of a `Vec`, with its room: nothing is copied.
+    fn from(items: Vec<u8>) -> Self {
+        Bytes { items }
+    }
+}
+
 /// A list of byte texts, such as a command's words.
 #[derive(Drop)]
 pub struct Words {
