@@ -1,0 +1,59 @@
+-- Digests have 16 bytes, so the key is the first two of the chain and the IV the third.
+use Rattle.std.proofs.Common.{◌≡◌, ℕ, zero, suc, ◌+◌, ◌-◌, ◌%◌, ◌<◌, ◌≤◌, List, [], ◌∷◌, ◌++◌, length, get_or, take, drop, refl, sym, ap, ◌∙◌, arith, append_assoc}
+use Rattle.std.proofs.lemmas.List.{append-nil, drop_at, take_at}
+use Rattle.std.specs.Int.{w32, byte_at, to_le_bytes}
+use Rattle.md5.specs.Md5.{md5, digest_bytes, hash_after, padded_message}
+use Rattle.fk_aes.specs.Field.{IsBytes}
+use Rattle.fk_aes.proofs.ByteLists.{IsBytes-append, written_out}
+use Rattle.fk_cbc.specs.KeyDerivation.{chained_digest, cipher_key, initial_vector}
+
+IsBytes-word : (n : ℕ) → IsBytes 4 (to_le_bytes w32 n)
+IsBytes-word n = written_out 4 (to_le_bytes w32 n) refl (omega arith, omega arith, omega arith, omega arith, tt)
+
+IsBytes-none : IsBytes 0 []
+IsBytes-none = written_out 0 [] refl tt
+
+IsBytes-digest_bytes : (h : List ℕ) → IsBytes 16 (digest_bytes h 4)
+unfolding digest_bytes
+IsBytes-digest_bytes h =
+    let at = λ (k : ℕ). get_or h k 0 in
+    IsBytes-append 12 4 16 _ _ refl
+    (IsBytes-append 8 4 12 _ _ refl
+    (IsBytes-append 4 4 8 _ _ refl
+    (IsBytes-append 0 4 4 _ _ refl IsBytes-none (IsBytes-word (at 0)))
+    (IsBytes-word (at 1)))
+    (IsBytes-word (at 2)))
+    (IsBytes-word (at 3))
+
+pub IsBytes-md5 : (m : List ℕ) → IsBytes 16 (md5 m)
+unfolding md5
+IsBytes-md5 m = IsBytes-digest_bytes _
+
+pub IsBytes-chained_digest : (key salt : List ℕ) (i : ℕ) → IsBytes 16 (chained_digest key salt i)
+unfolding chained_digest
+IsBytes-chained_digest key salt zero = IsBytes-md5 _
+IsBytes-chained_digest key salt (suc i) = IsBytes-md5 _
+
+pub cipher_key-is : (key salt : List ℕ) → cipher_key key salt ≡ chained_digest key salt 0 ++ chained_digest key salt 1
+unfolding cipher_key
+cipher_key-is key salt =
+    let a = chained_digest key salt 0 in
+    let b = chained_digest key salt 1 in
+    let c = chained_digest key salt 2 in
+    let size = (IsBytes-append 16 16 32 a b refl (IsBytes-chained_digest key salt 0) (IsBytes-chained_digest key salt 1)).size in
+    rw (← append_assoc a b c) (take_at (a ++ b) c 32 size)
+
+pub initial_vector-is : (key salt : List ℕ) → initial_vector key salt ≡ chained_digest key salt 2
+unfolding initial_vector
+initial_vector-is key salt =
+    let a = chained_digest key salt 0 in
+    let b = chained_digest key salt 1 in
+    let c = chained_digest key salt 2 in
+    let size = (IsBytes-append 16 16 32 a b refl (IsBytes-chained_digest key salt 0) (IsBytes-chained_digest key salt 1)).size in
+    rw (← append_assoc a b c, drop_at (a ++ b) c 32 size, ← append-nil c) (take_at c [] 16 (IsBytes-chained_digest key salt 2).size ∙ sym (append-nil c))
+
+pub IsBytes-cipher_key : (key salt : List ℕ) → IsBytes 32 (cipher_key key salt)
+IsBytes-cipher_key key salt = rw cipher_key-is (IsBytes-append 16 16 32 _ _ refl (IsBytes-chained_digest key salt 0) (IsBytes-chained_digest key salt 1))
+
+pub IsBytes-initial_vector : (key salt : List ℕ) → IsBytes 16 (initial_vector key salt)
+IsBytes-initial_vector key salt = rw initial_vector-is (IsBytes-chained_digest key salt 2)

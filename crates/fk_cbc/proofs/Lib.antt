@@ -1,0 +1,4 @@
+mod KeyLemmas
+mod ChainLemmas
+mod PaddingLemmas
+mod SealLemmas

@@ -1,0 +1,5 @@
+pub mod KeyDerivation
+pub mod Padding
+pub mod Chain
+pub mod Seals
+pub mod OpenFault
