@@ -1,7 +1,11 @@
 -- Chains of blocks: one block more at the end, and that the encrypted blocks leave one text.
-use Rattle.std.proofs.Common.{◌≡◌, ℕ, zero, suc, ◌+◌, ◌<◌, ◌≤◌, List, [], ◌∷◌, ◌++◌, length, take, drop, refl, sym, ap, ◌∙◌, subst, arith, append_assoc}
+use Rattle.std.proofs.Common.{◌≡◌, ℕ, ◌+◌, ◌*◌, ◌/◌, ◌%◌, ◌<◌, ◌≤◌, List, [], ◌∷◌, ◌++◌, length, get_or, take, drop, refl, sym, ap, ◌∙◌, subst, arith, append_assoc, inl, inr}
 use Rattle.std.specs.List.{concat}
-use Rattle.std.proofs.lemmas.List.{append-nil, drop_at, length-append, take_at}
+use Rattle.std.proofs.Math.Seq.{take-add}
+use Rattle.std.proofs.lemmas.Bool.{cases_lt}
+use Rattle.std.proofs.lemmas.List.{append-nil, drop-drop, drop_at, get_or-drop, get_or-take, get_or_past, length-append, length-drop, length-take, take_all, take_at}
+use Rattle.std.proofs.lemmas.Slice.{drop-put_mid, take-put_mid}
+use borrow.Rule.Slice.PartMut.{put_mid}
 use Rattle.fk_aes.specs.Cipher.{cipher, decipher}
 use Rattle.fk_aes.specs.Field.{IsBytes, xor_bytes}
 use Rattle.fk_aes.proofs.ByteLists.{IsBytes-xor_bytes, xor_bytes-twice}
@@ -57,6 +61,115 @@ EncryptsUpTo-more {key = key} {vector = vector} p c h b e =
 pub EncryptsUpTo-all : {key vector text encrypted last : List ℕ} → EncryptsUpTo key vector text encrypted last → Encrypts key vector text encrypted
 EncryptsUpTo-all h = record { ps = h.ps; cs = h.cs; text_is = h.text_is; encrypted_is = h.encrypted_is; chained = h.chained }
 
+-- ---- blocks that are written in place
+
+pub IsBytes-part : (xs : List ℕ) (a k : ℕ) → ((j : ℕ) → get_or xs j 0 < 256) → a + 16 ≤ length xs → k ≡ 16 → IsBytes 16 (take k (drop a xs))
+IsBytes-part xs a k h room e =
+    let size : length (take k (drop a xs)) ≡ 16 = simp (length-take, length-drop) (omega arith) in
+    record {
+      size = size;
+      each = λ j. elim (cases_lt j k) [
+        | inl lt ↦ rw (get_or-take k (drop a xs) j 0 lt, get_or-drop a xs j 0) (h (a + j))
+        | inr ge ↦ let past : length (take k (drop a xs)) ≤ j = omega arith in rw (get_or_past (take k (drop a xs)) j 0 past) (omega arith)
+      ];
+    }
+
+-- the list ys is xs with its first blocks changed, and one more is written over
+record WritesBlock (xs ys new : List ℕ) (i k : ℕ) : Type 0 where
+  size : length (put_mid (16 * i) k ys new) ≡ length xs
+  before : take (16 * (i + 1)) xs ≡ take (16 * i) xs ++ take k (drop (16 * i) ys)
+  after : take (16 * (i + 1)) (put_mid (16 * i) k ys new) ≡ take (16 * i) ys ++ new
+  rest : drop (16 * (i + 1)) (put_mid (16 * i) k ys new) ≡ drop (16 * (i + 1)) xs
+
+writes_block : (xs ys new : List ℕ) (i k : ℕ) → k ≡ 16 → length ys ≡ length xs → 16 * i + 16 ≤ length xs → length new ≡ 16
+    → drop (16 * i) ys ≡ drop (16 * i) xs → WritesBlock xs ys new i k
+writes_block xs ys new i k ek same room size rest =
+    let next : 16 * (i + 1) ≡ 16 * i + k = omega arith in
+    let here : 16 * i ≤ length ys = omega arith in
+    let new_size : length new ≡ k = omega arith in
+    record {
+      size = simp (length-append, length-take, length-drop) (omega arith);
+      before = ap (λ n. take n xs) next ∙ take-add (16 * i) k xs ∙ ap (λ r. take (16 * i) xs ++ take k r) (sym rest);
+      after = take-put_mid (16 * i) k ys new (16 * (i + 1)) (omega arith) here;
+      rest =
+          drop-put_mid (16 * i) k ys new (16 * (i + 1)) (omega arith) here new_size
+          ∙ ap (λ n. drop n ys) next
+          ∙ sym (drop-drop k (16 * i) ys)
+          ∙ ap (drop k) rest
+          ∙ drop-drop k (16 * i) xs
+          ∙ ap (λ n. drop n xs) (sym next);
+    }
+
+-- the first i blocks of xs are encrypted in ys, and the others are as they were
+pub record SealedUpTo (key vector xs ys : List ℕ) (i : ℕ) (last : List ℕ) : Type 0 where
+  pub size : length ys ≡ length xs
+  pub bytes : (j : ℕ) → get_or xs j 0 < 256
+  pub rest : drop (16 * i) ys ≡ drop (16 * i) xs
+  pub done : EncryptsUpTo key vector (take (16 * i) xs) (take (16 * i) ys) last
+
+-- the first i blocks of xs are decrypted in ys, and the others are as they were
+pub record OpenedUpTo (key vector xs ys : List ℕ) (i : ℕ) (last : List ℕ) : Type 0 where
+  pub size : length ys ≡ length xs
+  pub rest : drop (16 * i) ys ≡ drop (16 * i) xs
+  pub done : EncryptsUpTo key vector (take (16 * i) ys) (take (16 * i) xs) last
+
+pub SealedUpTo-none : (key vector xs : List ℕ) → ((j : ℕ) → get_or xs j 0 < 256) → SealedUpTo key vector xs xs 0 vector
+SealedUpTo-none key vector xs h = record { size = refl; bytes = h; rest = refl; done = EncryptsUpTo-none key vector }
+
+pub OpenedUpTo-none : (key vector xs : List ℕ) → OpenedUpTo key vector xs xs 0 vector
+OpenedUpTo-none key vector xs = record { size = refl; rest = refl; done = EncryptsUpTo-none key vector }
+
+pub SealedUpTo-more : (key vector xs ys : List ℕ) (i : ℕ) (last new next : List ℕ) (k : ℕ) → SealedUpTo key vector xs ys i last
+    → k ≡ 16 → i < length xs / 16 → length new ≡ 16 → new ≡ next → next ≡ cipher key (xor_bytes (take k (drop (16 * i) ys)) last)
+    → SealedUpTo key vector xs (put_mid (16 * i) k ys new) (i + 1) next
+SealedUpTo-more key vector xs ys i last new next k h ek lt size written sealed =
+    let room : 16 * i + 16 ≤ length xs = omega arith in
+    let block : IsBytes 16 (take k (drop (16 * i) ys)) = rw h.rest (IsBytes-part xs (16 * i) k h.bytes room ek) in
+    let w = writes_block xs ys new i k ek h.size room size h.rest in
+    let more : EncryptsUpTo key vector (take (16 * i) xs ++ take k (drop (16 * i) ys)) (take (16 * i) ys ++ next) next =
+    EncryptsUpTo-more (take k (drop (16 * i) ys)) next h.done block sealed in
+    record {
+      size = w.size;
+      bytes = h.bytes;
+      rest = w.rest;
+      done =
+          subst (λ r. EncryptsUpTo key vector (take (16 * (i + 1)) xs) r next) (sym (w.after ∙ ap (λ r. take (16 * i) ys ++ r) written))
+          (subst (λ r. EncryptsUpTo key vector r (take (16 * i) ys ++ next) next) (sym w.before) more);
+    }
+
+pub OpenedUpTo-more : (key vector xs ys : List ℕ) (i : ℕ) (last new next : List ℕ) (k : ℕ) → OpenedUpTo key vector xs ys i last
+    → k ≡ 16 → i < length xs / 16 → IsBytes 16 new → next ≡ take k (drop (16 * i) ys)
+    → take k (drop (16 * i) ys) ≡ cipher key (xor_bytes new last)
+    → OpenedUpTo key vector xs (put_mid (16 * i) k ys new) (i + 1) next
+OpenedUpTo-more key vector xs ys i last new next k h ek lt new_bytes was plain =
+    let room : 16 * i + 16 ≤ length xs = omega arith in
+    let w = writes_block xs ys new i k ek h.size room new_bytes.size h.rest in
+    let more : EncryptsUpTo key vector (take (16 * i) ys ++ new) (take (16 * i) xs ++ next) next =
+    EncryptsUpTo-more new next h.done new_bytes (was ∙ plain) in
+    record {
+      size = w.size;
+      rest = w.rest;
+      done =
+          subst (λ r. EncryptsUpTo key vector r (take (16 * (i + 1)) xs) next) (sym w.after)
+          (subst (λ r. EncryptsUpTo key vector (take (16 * i) ys ++ new) r next) (sym (w.before ∙ ap (λ r. take (16 * i) xs ++ r) (sym was))) more);
+    }
+
+pub SealedUpTo-all : (key vector xs ys : List ℕ) (i : ℕ) (last : List ℕ) → SealedUpTo key vector xs ys i last
+    → length xs % 16 ≡ 0 → length xs / 16 ≤ i → Encrypts key vector xs ys
+SealedUpTo-all key vector xs ys i last h whole done =
+    let far : length xs ≤ 16 * i = omega arith in
+    let far_too : length ys ≤ 16 * i = omega (arith, h.size) in
+    subst (λ r. Encrypts key vector xs r) (take_all (16 * i) ys far_too)
+    (subst (λ r. Encrypts key vector r (take (16 * i) ys)) (take_all (16 * i) xs far) (EncryptsUpTo-all h.done))
+
+pub OpenedUpTo-all : (key vector xs ys : List ℕ) (i : ℕ) (last : List ℕ) → OpenedUpTo key vector xs ys i last
+    → length xs % 16 ≡ 0 → length xs / 16 ≤ i → Encrypts key vector ys xs
+OpenedUpTo-all key vector xs ys i last h whole done =
+    let far : length xs ≤ 16 * i = omega arith in
+    let far_too : length ys ≤ 16 * i = omega (arith, h.size) in
+    subst (λ r. Encrypts key vector r xs) (take_all (16 * i) ys far_too)
+    (subst (λ r. Encrypts key vector (take (16 * i) ys) r) (take_all (16 * i) xs far) (EncryptsUpTo-all h.done))
+
 -- ---- one text for the encrypted blocks
 
 -- two lists with fronts of one length
@@ -105,3 +218,27 @@ pub Encrypts-same : {key vector text other encrypted : List ℕ} → IsBytes 32 
     → Encrypts key vector text encrypted → Encrypts key vector other encrypted → text ≡ other
 Encrypts-same {key = key} {vector = vector} hk hv h g =
     h.text_is ∙ texts-same key vector h.ps h.cs g.ps g.cs hk hv h.chained g.chained (sym h.encrypted_is ∙ g.encrypted_is) ∙ sym g.text_is
+
+-- as many blocks in the text as in the encrypted one
+pub record HasBlocks (text encrypted : List ℕ) : Type 0 where
+  pub n : ℕ
+  pub text_len : length text ≡ 16 * n
+  pub encrypted_len : length encrypted ≡ 16 * n
+
+Chained-blocks : (key v : List ℕ) (ps cs : List (List ℕ)) → IsBytes 32 key → IsBytes 16 v → Chained key v ps cs → HasBlocks (concat ps) (concat cs)
+Chained-blocks key v [] [] hk hv h = record { n = 0; text_len = refl; encrypted_len = refl }
+Chained-blocks key v [] (c ∷ cs) hk hv h = absurd h
+Chained-blocks key v (p ∷ ps) [] hk hv h = absurd h
+Chained-blocks key v (p ∷ ps) (c ∷ cs) hk hv h =
+    let hc = IsBytes-next key v p c hk hv h.0 h.1 in
+    let more = Chained-blocks key c ps cs hk hc h.2 in
+    record {
+      n = more.n + 1;
+      text_len = omega (arith, length-append p (concat ps), h.0.size, more.text_len);
+      encrypted_len = omega (arith, length-append c (concat cs), hc.size, more.encrypted_len);
+    }
+
+pub Encrypts-blocks : {key vector text encrypted : List ℕ} → IsBytes 32 key → IsBytes 16 vector → Encrypts key vector text encrypted → HasBlocks text encrypted
+Encrypts-blocks {key = key} {vector = vector} hk hv h =
+    let b = Chained-blocks key vector h.ps h.cs hk hv h.chained in
+    record { n = b.n; text_len = ap length h.text_is ∙ b.text_len; encrypted_len = ap length h.encrypted_is ∙ b.encrypted_len }

@@ -1,14 +1,15 @@
 -- Digests have 16 bytes, so the key is the first two of the chain and the IV the third.
-use Rattle.std.proofs.Common.{◌≡◌, ℕ, zero, suc, ◌+◌, ◌-◌, ◌%◌, ◌<◌, ◌≤◌, List, [], ◌∷◌, ◌++◌, length, get_or, take, drop, refl, sym, ap, ◌∙◌, arith, append_assoc}
-use Rattle.std.proofs.lemmas.List.{append-nil, drop_at, take_at}
-use Rattle.std.specs.Int.{w32, byte_at, to_le_bytes}
-use Rattle.md5.specs.Md5.{md5, digest_bytes, hash_after, padded_message}
+use Rattle.std.proofs.Common.{◌≡◌, ℕ, zero, suc, List, [], ◌++◌, length, get_or, take, drop, refl, ap, ◌∙◌, arith}
+use Rattle.std.proofs.lemmas.List.{append-nil, drop_all, drop_at, take_all, take_at}
+use Rattle.std.specs.Int.{w32, to_le_bytes}
+use borrow.Rule.Slice.PartMut.{put_mid}
+use Rattle.md5.specs.Md5.{md5, digest_bytes}
 use Rattle.fk_aes.specs.Field.{IsBytes}
 use Rattle.fk_aes.proofs.ByteLists.{IsBytes-append, written_out}
 use Rattle.fk_cbc.specs.KeyDerivation.{chained_digest, cipher_key, initial_vector}
 
 IsBytes-word : (n : ℕ) → IsBytes 4 (to_le_bytes w32 n)
-IsBytes-word n = written_out 4 (to_le_bytes w32 n) refl (omega arith, omega arith, omega arith, omega arith, tt)
+IsBytes-word n = written_out 4 (to_le_bytes w32 n) refl (omega arith, (omega arith, (omega arith, (omega arith, tt))))
 
 IsBytes-none : IsBytes 0 []
 IsBytes-none = written_out 0 [] refl tt
@@ -41,7 +42,7 @@ cipher_key-is key salt =
     let b = chained_digest key salt 1 in
     let c = chained_digest key salt 2 in
     let size = (IsBytes-append 16 16 32 a b refl (IsBytes-chained_digest key salt 0) (IsBytes-chained_digest key salt 1)).size in
-    rw (← append_assoc a b c) (take_at (a ++ b) c 32 size)
+    take_at (a ++ b) c 32 size
 
 pub initial_vector-is : (key salt : List ℕ) → initial_vector key salt ≡ chained_digest key salt 2
 unfolding initial_vector
@@ -50,10 +51,16 @@ initial_vector-is key salt =
     let b = chained_digest key salt 1 in
     let c = chained_digest key salt 2 in
     let size = (IsBytes-append 16 16 32 a b refl (IsBytes-chained_digest key salt 0) (IsBytes-chained_digest key salt 1)).size in
-    rw (← append_assoc a b c, drop_at (a ++ b) c 32 size, ← append-nil c) (take_at c [] 16 (IsBytes-chained_digest key salt 2).size ∙ sym (append-nil c))
+    ap (take 16) (drop_at (a ++ b) c 32 size) ∙ take_all 16 c (omega (arith, (IsBytes-chained_digest key salt 2).size))
 
 pub IsBytes-cipher_key : (key salt : List ℕ) → IsBytes 32 (cipher_key key salt)
 IsBytes-cipher_key key salt = rw cipher_key-is (IsBytes-append 16 16 32 _ _ refl (IsBytes-chained_digest key salt 0) (IsBytes-chained_digest key salt 1))
 
 pub IsBytes-initial_vector : (key salt : List ℕ) → IsBytes 16 (initial_vector key salt)
 IsBytes-initial_vector key salt = rw initial_vector-is (IsBytes-chained_digest key salt 2)
+
+-- a list of 32 whose second half is written over
+pub put_mid-half : (a zs b : List ℕ) → length a ≡ 16 → length zs ≡ 16 → put_mid 16 16 (a ++ zs) b ≡ a ++ b
+put_mid-half a zs b la lz =
+    let none : drop 16 zs ≡ [] = drop_all 16 zs (omega arith) in
+    rw (take_at a zs 16 la, drop_at a zs 16 la, none, append-nil) refl

@@ -2,3 +2,4 @@ mod KeyLemmas
 mod ChainLemmas
 mod PaddingLemmas
 mod SealLemmas
+mod Examples

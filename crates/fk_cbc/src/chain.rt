@@ -9,32 +9,32 @@ use fk_aes::Key256;
 use fk_base::Steps;
 use std::sync::ledger::Ledger;
 
-/// Encrypts all blocks of a text, from the first to the last.
-pub(crate) fn seal_blocks(key: &Key256, vector: [u8; 16], blocks: &mut [u8])
-    requires { length blocks.old % 16 ≡ 0 }
-    ensures { Encrypts key.now vector blocks.old blocks.new }
+/// Encrypts a text of whole blocks, from the first to the last.
+pub(crate) fn seal_blocks(key: &Key256, vector: [u8; 16], text: &mut [u8])
+    requires { length text.old % 16 ≡ 0 }
+    ensures { Encrypts key.now vector text.old text.new }
 {
     let mut before = vector;
-    for i in 0..blocks.len() / 16 {
-        before = seal_block(key, &before, &mut blocks[16 * i..16 * i + 16]);
+    for i in 0..text.len() / 16 {
+        before = seal_block(key, &before, &mut text[16 * i..16 * i + 16]);
     }
 }
 
-/// Decrypts all blocks of a text, from the first to the last, and counts each.
+/// Decrypts a text of whole blocks, from the first to the last, and counts each.
 pub(crate) fn open_blocks<L: Ledger>(
     key: &Key256,
     vector: [u8; 16],
-    blocks: &mut [u8],
+    text: &mut [u8],
     steps: &mut Steps<L>,
 )
     requires key { IsBytes 32 key.now }
-    requires blocks { length blocks.old % 16 ≡ 0 }
-    ensures text { Encrypts key.now vector blocks.new blocks.old }
-    ensures steps { steps.new ≡ steps.old + length blocks.old / 16 }
+    requires blocks { length text.old % 16 ≡ 0 }
+    ensures plain { Encrypts key.now vector text.new text.old }
+    ensures steps { steps.new ≡ steps.old + length text.old / 16 }
 {
     let mut before = vector;
-    for i in 0..blocks.len() / 16 {
-        before = open_block(key, &before, &mut blocks[16 * i..16 * i + 16], steps);
+    for i in 0..text.len() / 16 {
+        before = open_block(key, &before, &mut text[16 * i..16 * i + 16], steps);
     }
 }
 
@@ -42,7 +42,7 @@ pub(crate) fn open_blocks<L: Ledger>(
 fn seal_block(key: &Key256, before: &[u8; 16], block: &mut [u8]) -> [u8; 16]
     requires { length block.old ≡ 16 }
     ensures written { block.new ≡ result }
-    ensures sealed { result ≡ cipher key.now (xor_bytes block.old before.now) }
+    ensures encrypted { result ≡ cipher key.now (xor_bytes block.old before.now) }
 {
     let mut sealed = [0; 16];
     sealed.copy_from_slice(block);
@@ -60,18 +60,19 @@ fn open_block<L: Ledger>(
     steps: &mut Steps<L>,
 ) -> [u8; 16]
     requires key { IsBytes 32 key.now }
-    requires block { length block.old ≡ 16 }
-    ensures sealed { result ≡ block.old }
+    requires block { IsBytes 16 block.old }
+    ensures encrypted { result ≡ block.old }
+    ensures bytes { IsBytes 16 block.new }
     ensures plain { block.old ≡ cipher key.now (xor_bytes block.new before.now) }
     ensures steps { steps.new ≡ steps.old + 1 }
 {
-    let mut sealed = [0; 16];
-    sealed.copy_from_slice(block);
-    let mut plain = sealed;
+    let mut encrypted = [0; 16];
+    encrypted.copy_from_slice(block);
+    let mut plain = encrypted;
     key.decrypt(&mut plain, steps);
     xor_block(&mut plain, before);
     block.copy_from_slice(&plain);
-    sealed
+    encrypted
 }
 
 fn xor_block(block: &mut [u8; 16], other: &[u8; 16])

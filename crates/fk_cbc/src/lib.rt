@@ -13,6 +13,8 @@ mod derivation;
 mod open_fault;
 mod padding;
 mod salted;
+#[cfg(test)]
+mod tests;
 
 pub use derivation::derive;
 pub use open_fault::OpenFault;

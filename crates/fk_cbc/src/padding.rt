@@ -1,4 +1,4 @@
-ghost use Rattle.std.specs.Prelude.{◌≡◌, ◌-◌, ◌%◌, ◌≤◌, ◌++◌, length, take, MatchOption};
+ghost use Rattle.std.specs.Prelude.{◌≡◌, ◌↔◌, ◌-◌, ◌%◌, ◌≤◌, ◌++◌, length, take, All, IsTrue, MatchOption};
 ghost use Rattle.fk_cbc.specs.Padding.{HasPadding, padding};
 
 /// How many bytes of padding follow a plaintext of this length.
@@ -11,14 +11,19 @@ pub(crate) fn padding_len(plain_len: usize) -> u8
 /// How long the plaintext before the padding is, where a text ends in a right one.
 pub(crate) fn plain_len(text: &[u8]) -> Option<usize>
     ensures { MatchOption result (¬ HasPadding text.now)
-        (λ len. (take len text.now ++ padding (length text.now - len) ≡ text.now)
-            × (1 ≤ length text.now - len) × (length text.now - len ≤ 16)) }
+        (λ len. (text.now ≡ take len text.now ++ padding (length text.now - len))
+        × (1 ≤ length text.now - len) × (length text.now - len ≤ 16)) }
 {
     let last = *text.last()?;
     let n = usize::from(last);
-    if n == 0 || n > 16 || n > text.len() {
+    if n == 0 || n > 16 || n > text.len() || !has_only(&text[text.len() - n..], last) {
         return None;
     }
-    let len = text.len() - n;
-    text[len..].iter().all(|b| *b == last).then_some(len)
+    Some(text.len() - n)
+}
+
+fn has_only(bytes: &[u8], value: u8) -> bool
+    ensures { IsTrue result ↔ All (λ b. b ≡ value) bytes.now }
+{
+    bytes.iter().all(|b| *b == value)
 }

@@ -1,4 +1,4 @@
-ghost use Rattle.std.specs.Prelude.{◌≡◌, ◌≢◌, ℕ, ◌+◌, ◌/◌, ◌%◌, ◌⊎◌, ◌≤◌, ◌++◌, List, Err, length, IfErr, IfOk, MatchResult, OnOk};
+ghost use Rattle.std.specs.Prelude.{◌≡◌, ◌≢◌, ℕ, ◌+◌, ◌*◌, ◌/◌, ◌%◌, ◌⊎◌, ◌≤◌, ◌++◌, List, Err, length, IfErr, IfOk, MatchResult, OnOk};
 ghost use Rattle.fk_cbc.specs.Chain.{Encrypts};
 ghost use Rattle.fk_cbc.specs.KeyDerivation.{cipher_key, initial_vector};
 ghost use Rattle.fk_cbc.specs.OpenFault.{FirstOpenFault, HasBadLength, HasMark};
@@ -16,9 +16,10 @@ use std::sync::ledger::Ledger;
 
 const MARK: &[u8; 8] = b"Salted__";
 
-/// The sealed bytes of `plain`: 16 bytes of mark and salt, and one block more than `plain` has whole ones.
+/// The sealed bytes of `plain` under a key and a salt.
 pub fn seal(alloc: Global, key: &[u8], salt: [u8; 8], plain: &[u8]) -> Result<Bytes, NoMemory>
-    ensures { IfOk result (λ sealed. Seals key.now salt plain.now sealed) }
+    ensures sealed { IfOk result (λ sealed. Seals key.now salt plain.now sealed) }
+    ensures len { IfOk result (λ sealed. length sealed ≡ 32 + length plain.now / 16 * 16) }
 {
     let (cipher_key, vector) = derive(key, salt);
     let mut sealed = marked(alloc, salt, plain)?;
@@ -83,7 +84,7 @@ fn read_salt(sealed: &[u8]) -> Result<[u8; 8], OpenFault>
     ensures { MatchResult result
         (λ salt. HasMark sealed.now × ¬ HasBadLength sealed.now × (salt ≡ salt_in sealed.now))
         (λ e. ((e ≡ OpenFault.NotSalted) × ¬ HasMark sealed.now)
-            ⊎ ((e ≡ OpenFault.BadLength) × HasMark sealed.now × HasBadLength sealed.now)) }
+        ⊎ ((e ≡ OpenFault.BadLength) × HasMark sealed.now × HasBadLength sealed.now)) }
 {
     if !sealed.starts_with(MARK) {
         return Err(OpenFault::NotSalted);
