@@ -9,3 +9,6 @@ pub mod CommandWords
 pub mod TurnLines
 pub mod BeginLemmas
 pub mod TurnLemmas
+pub mod RunLemmas
+pub mod RunSteps
+pub mod RunCauses

@@ -3,3 +3,4 @@ pub mod Command
 pub mod Rules
 pub mod Trial
 pub mod Run
+pub mod RunStates

@@ -3,6 +3,7 @@ use Rattle.std.specs.Prelude.{◌≡◌, ◌⊎◌, ℕ, false, List, [], ◌++�
 use Rattle.std.specs.List.{filter, range_with_len, AllByRecursion}
 use Rattle.fk_base.specs.declared.status.Status.{Status}
 use Rattle.fk_base.specs.declared.status.Status.TheVariants as status
+use Rattle.fk_host.specs.Count.{Rose}
 use Rattle.fk_host.specs.Stream.{Takes, Gives}
 use Rattle.fk_input.specs.declared.fault.Fault.{Fault}
 use Rattle.fk_input.specs.declared.fault.LineFault.TheVariants.{BadLine, TooLong}
@@ -30,17 +31,25 @@ pub record IsTrialTrace (trace : List Item) : Type 0 where
 abbrev pub ReadsTurns : List (List ℕ) → List FeedTurn → Option Fault → Type 0
 ReadsTurns lines turns fault = Reads IsTurnLine 0 1 lines turns fault
 
+-- each line of the text is a turn
+abbrev pub HasOnlyTurns : List ℕ → Type 0
+HasOnlyTurns text = (turns : List FeedTurn) × ReadsTurns (pieces text) turns None
+
+-- a line of the text is none of the grammar, or the limit is passed in it
+abbrev pub HasFaultyLine : List ℕ → Type 0
+HasFaultyLine text = (turns : List FeedTurn) × (fault : Fault) × ReadsTurns (pieces text) turns (Some fault)
+
 -- the turns of a run that ended so, by what the input had and has left, where it tells
 abbrev pub HasTurns : Ending → Option (List ℕ) → Option (List ℕ) → List FeedTurn → Type 0
 -- the input was read to its end, and each line is a turn
-HasTurns AtEnd before after turns = IfSome before (λ text. ReadsTurns (pieces text) turns None) × IfSome after (λ bytes. bytes ≡ [])
+HasTurns AtEnd before after turns = IfSome before (λ text. ReadsTurns (pieces text) turns None × (after ≡ Some []))
 -- the first line that is none is at fault
 HasTurns (AtBadLine line) before after turns = IfSome before (λ text. ReadsTurns (pieces text) turns (Some (record { line = line; what = BadLine })))
 HasTurns (AtLongInput line) before after turns = IfSome before (λ text. ReadsTurns (pieces text) turns (Some (record { line = line; what = TooLong })))
 -- of what was taken exactly the lines are turns whose line feed was read
 HasTurns AtReadFault before after turns = (taken : List ℕ) × Takes taken before after × ReadsTurns (filter is_fed (pieces taken)) turns None
--- the turns are the lines of a front of the input
-HasTurns Silent before after turns = IfSome before (λ text. (front : List ℕ) × (others : List ℕ) × (text ≡ front ++ others) × ReadsTurns (pieces front) turns None)
+-- the turns are the first lines of the input
+HasTurns Silent before after turns = IfSome before (λ text. (lines : List (List ℕ)) × (others : List (List ℕ)) × (pieces text ≡ lines ++ others) × ReadsTurns lines turns None)
 
 -- What is known of the counts of faults of a run's input and output: that they rose in it, and that the output's is as
 -- before.
@@ -48,6 +57,13 @@ pub record Counts : Type 1 where
   pub input_rose : Type 0
   pub output_rose : Type 0
   pub output_same : Type 0
+
+abbrev pub counts_of : ℕ → ℕ → ℕ → ℕ → Counts
+counts_of input_old input_new output_old output_new = record {
+  input_rose = Rose input_old input_new;
+  output_rose = Rose output_old output_new;
+  output_same = output_new ≡ output_old;
+}
 
 -- the status of a run that ended so and left out `cut` of its log: an output that failed shows only where the run would
 -- have answered Done

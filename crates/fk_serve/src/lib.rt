@@ -3,16 +3,17 @@
 //!
 //! No socket, no file and no child process is known here: the outside comes in as traits.
 //!
-//! Start at `trial`, which serves one turn; `specs/Trial.antt` says what that promises.
+//! Start at `run`, whose one public call the program makes; `specs/Run.antt` says what it promises, and
+//! `specs/Trial.antt` what one turn of it does.
 #![tactic(auto)]
 
 mod admission;
 mod closes;
 mod command;
 mod polls;
+mod run;
 mod trial;
 mod turn;
 
-pub use command::{Command, read_command};
-pub use trial::Trial;
-pub use turn::{Turn, TurnInput, read_turn};
+pub use command::Command;
+pub use run::fwknopd_run;
