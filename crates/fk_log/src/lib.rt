@@ -8,5 +8,7 @@
 
 mod line;
 mod page;
+#[cfg(test)]
+mod tests;
 
 pub use page::{Page, Tally};
