@@ -12,6 +12,8 @@ mod closes;
 mod command;
 mod polls;
 mod run;
+#[cfg(test)]
+mod tests;
 mod trial;
 mod turn;
 
