@@ -12,3 +12,4 @@ pub mod TurnLemmas
 pub mod RunLemmas
 pub mod RunSteps
 pub mod RunCauses
+pub mod WorkedRow
