@@ -1,3 +1,8 @@
 pub mod Lists
 pub mod Running
 pub mod Ledgers
+pub mod Splits
+pub mod Grants
+pub mod Settled
+pub mod Turns
+pub mod Runs

@@ -4,4 +4,5 @@ pub mod Idle
 pub mod Decision
 pub mod Planned
 pub mod Legal
+pub mod Headline
 pub mod Orderly

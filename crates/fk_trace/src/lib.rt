@@ -8,7 +8,9 @@
 #![tactic(auto)]
 
 mod change;
+mod laws;
 mod refusal;
 
 pub use change::{Change, OpenRecord};
+pub use laws::legal_runs_keep_the_headline;
 pub use refusal::LogWhy;
