@@ -6,3 +6,7 @@ pub mod Grants
 pub mod Settled
 pub mod Turns
 pub mod Runs
+pub mod FirstCloses
+pub mod TurnParts
+pub mod Starts
+pub mod Owed

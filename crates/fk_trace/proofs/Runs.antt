@@ -13,11 +13,12 @@ use Rattle.fk_trace.specs.Trace.{Event, Item, attempt_of, past_after}
 use Rattle.fk_trace.specs.Trace.Event.{Turn, Began, StartFailed, Ended, Runs, PollFailed}
 use Rattle.fk_trace.specs.Ledger.{opens, dones, live, seen, next_id}
 use Rattle.fk_trace.specs.Decision.{FeedTurn, Rules}
+use Rattle.fk_trace.specs.Planned.{settled_in}
 use Rattle.fk_trace.specs.Legal.{IsAttempt, IsNoAttempt, IsNoPoll, WholeTurn, CutTurn, LegalFrom, ends_after}
 use Rattle.fk_trace.specs.Headline.{turns_begun, opened_by_attempt, opens_attempted, IsGranted, OpensByGrant, ClosesWhenDue, OpensOnce}
 use Rattle.fk_trace.proofs.Splits.{cases_joined, none_before, Contains-place, Contains-recursion, AllPairs-front, range-joined, range-front}
-use Rattle.fk_trace.proofs.Settled.{EndsCleanly, ends-longer, ends-later}
-use Rattle.fk_trace.proofs.Turns.{turns_begun-append, opens_attempted-append, opens_attempted-none, opens-append, dones-append, next_id-append, MakesOne, numbered-one, apart-one, turns_begun-whole, turns_begun-front, opens-in_turn, closes-in_turn, settles-in_turn, opens_attempted-whole, makes_one}
+use Rattle.fk_trace.proofs.Settled.{settled_in-append, EndsCleanly, ends-longer, ends-later}
+use Rattle.fk_trace.proofs.Turns.{turns_begun-append, opens_attempted-append, opens_attempted-none, opens-append, dones-append, next_id-append, MakesOne, numbered-one, apart-one, turns_begun-whole, turns_begun-front, opens-in_turn, closes-in_turn, settles-in_turn, opens_attempted-whole, makes_one, settled_in-whole, closes-front}
 
 no_attempt : (purpose : Purpose) (words : List (List ℕ)) (event : Event) → IsAttempt purpose words event → IsNoAttempt event → ⊥
 no_attempt purpose words (Turn number) h n = h
@@ -40,7 +41,7 @@ no_opens [] h = tt
 no_opens (item ∷ items) h = (none_opened item.event h.0, no_opens items h.1)
 
 -- the turn in which this item lies behind these items, with all that is whole of it
-record AtTurn (rules : Rules) (ledger : List Change) (turns : List FeedTurn) (changes : List Change) (before : List Item) (item : Item) : Type 0 where
+record AtTurn (rules : Rules) (begun : List Item) (ledger : List Change) (turns : List FeedTurn) (changes : List Change) (before : List Item) (item : Item) : Type 0 where
   turn : FeedTurn
   index : ℕ
   past : List Item
@@ -56,14 +57,17 @@ record AtTurn (rules : Rules) (ledger : List Change) (turns : List FeedTurn) (ch
   taken : slice_get turns index ≡ Some turn
   counted : turns_begun before ≡ index + turns_begun front
   over : stood ≡ ledger ++ earlier
+  settled : settled_in begun before ≡ dones earlier ++ settled_in past front
+  attempted : opens_attempted before ≡ map (λ item. item.id) (opens earlier) ++ opens_attempted front
   joined : changes ≡ earlier ++ (made ++ later)
   placed : items ≡ front ++ item ∷ rest
   whole : WholeTurn rules past ends stood number turn items made
 
 -- the turn lies behind another
-at_later : (rules : Rules) (ledger : List Change) (turn : FeedTurn) (turns : List FeedTurn) (made others : List Change) (items before : List Item) (item : Item)
-    → turns_begun items ≡ 1 → AtTurn rules (ledger ++ made) turns others before item → AtTurn rules ledger (turn ∷ turns) (made ++ others) (items ++ before) item
-at_later rules ledger turn turns made others items before item one at = record {
+at_later : (rules : Rules) (past : List Item) (ledger : List Change) (turn : FeedTurn) (turns : List FeedTurn) (made others : List Change) (items before : List Item) (item : Item)
+    → turns_begun items ≡ 1 → settled_in past items ≡ dones made → opens_attempted items ≡ map (λ item. item.id) (opens made)
+    → AtTurn rules (past_after past items) (ledger ++ made) turns others before item → AtTurn rules past ledger (turn ∷ turns) (made ++ others) (items ++ before) item
+at_later rules past ledger turn turns made others items before item one settled attempted at = record {
   turn = at.turn;
   index = suc at.index;
   past = at.past;
@@ -79,6 +83,13 @@ at_later rules ledger turn turns made others items before item one at = record {
   taken = at.taken;
   counted = let joined = turns_begun-append items before in let counted = at.counted in omega arith;
   over = at.over ∙ append_assoc ledger made at.earlier;
+  settled = settled_in-append past items before ∙ ap (λ xs. xs ++ settled_in (past_after past items) before) settled ∙ ap (λ xs. dones made ++ xs) at.settled
+      ∙ sym (append_assoc (dones made) (dones at.earlier) (settled_in at.past at.front)) ∙ ap (λ xs. xs ++ settled_in at.past at.front) (sym (dones-append made at.earlier));
+  attempted =
+      let ids : List Change → List ℕ = λ changes. map (λ (item : OpenRecord). item.id) (opens changes) in
+      opens_attempted-append items before ∙ ap (λ xs. xs ++ opens_attempted before) attempted ∙ ap (λ xs. ids made ++ xs) at.attempted
+      ∙ sym (append_assoc (ids made) (ids at.earlier) (opens_attempted at.front))
+      ∙ ap (λ xs. xs ++ opens_attempted at.front) (sym (ap (map (λ (item : OpenRecord). item.id)) (opens-append made at.earlier) ∙ map-append (λ (item : OpenRecord). item.id) (opens made) (opens at.earlier)));
   joined = ap (λ xs. made ++ xs) at.joined ∙ sym (append_assoc made at.earlier (at.made ++ at.later));
   placed = at.placed;
   whole = at.whole;
@@ -87,7 +98,7 @@ at_later rules ledger turn turns made others items before item one at = record {
 -- the turn of the attempt is cut short
 at_cut : (rules : Rules) (past : List Item) (ends : List ℕ) (ledger : List Change) (number : ℕ) (turn : FeedTurn) (turns : List FeedTurn) (trace : List Item) (changes : List Change)
     (before : List Item) (item : Item) (after : List Item) (purpose : Purpose) (words : List (List ℕ))
-    → CutTurn rules past ends ledger number turn trace changes → trace ≡ before ++ item ∷ after → IsAttempt purpose words item.event → AtTurn rules ledger (turn ∷ turns) changes before item
+    → CutTurn rules past ends ledger number turn trace changes → trace ≡ before ++ item ∷ after → IsAttempt purpose words item.event → AtTurn rules past ledger (turn ∷ turns) changes before item
 at_cut rules past ends ledger number turn turns trace changes before item after purpose words cut e h =
     let unmade : cut.unmade ≡ [] =
     elim cut.changes_before_attempts [
@@ -110,6 +121,8 @@ at_cut rules past ends ledger number turn turns trace changes before item after 
       taken = refl;
       counted = omega arith;
       over = sym (append-nil ledger);
+      settled = refl;
+      attempted = refl;
       joined = sym (append-nil (changes ++ cut.unmade) ∙ ap (λ xs. changes ++ xs) unmade ∙ append-nil changes);
       placed = ap (λ xs. xs ++ cut.missing) e ∙ append_assoc before (item ∷ after) cut.missing;
       whole = cut.whole;
@@ -118,7 +131,7 @@ at_cut rules past ends ledger number turn turns trace changes before item after 
 -- each attempt lies in a turn
 at_turn : (may_cut : Bool) (rules : Rules) (turns : List FeedTurn) (past : List Item) (ends : List ℕ) (ledger : List Change) (number : ℕ) (trace : List Item) (changes : List Change)
     (before : List Item) (item : Item) (after : List Item) (purpose : Purpose) (words : List (List ℕ))
-    → LegalFrom may_cut rules past ends ledger number turns trace changes → trace ≡ before ++ item ∷ after → IsAttempt purpose words item.event → AtTurn rules ledger turns changes before item
+    → LegalFrom may_cut rules past ends ledger number turns trace changes → trace ≡ before ++ item ∷ after → IsAttempt purpose words item.event → AtTurn rules past ledger turns changes before item
 at_turn may_cut rules [] past ends ledger number trace changes before item after purpose words run e h = absurd (none_before before item after (sym run.0 ∙ e))
 at_turn may_cut rules (turn ∷ turns) past ends ledger number trace changes before item after purpose words run e h =
     elim run [
@@ -140,20 +153,22 @@ at_turn may_cut rules (turn ∷ turns) past ends ledger number trace changes bef
               taken = refl;
               counted = omega arith;
               over = sym (append-nil ledger);
+              settled = refl;
+              attempted = refl;
               joined = w.5;
               placed = here.1;
               whole = w.6;
             }
             | inr behind ↦
                 let at = at_turn may_cut rules turns (past_after past w.0) (ends_after turn.moment ends w.0) (ledger ++ w.2) (number + 1) w.1 w.3 behind.0 item after purpose words w.7 behind.2 h in
-                let later = at_later rules ledger turn turns w.2 w.3 w.0 behind.0 item (turns_begun-whole w.6) at in
-                subst (λ (made : List Change). AtTurn rules ledger (turn ∷ turns) made before item) (sym w.5)
-                (subst (λ (front : List Item). AtTurn rules ledger (turn ∷ turns) (w.2 ++ w.3) front item) (sym behind.1) later)
+                let later = at_later rules past ledger turn turns w.2 w.3 w.0 behind.0 item (turns_begun-whole w.6) (settled_in-whole w.6) (opens_attempted-whole w.6) at in
+                subst (λ (made : List Change). AtTurn rules past ledger (turn ∷ turns) made before item) (sym w.5)
+                (subst (λ (front : List Item). AtTurn rules past ledger (turn ∷ turns) (w.2 ++ w.3) front item) (sym behind.1) later)
           ]
       | inr cut ↦ at_cut rules past ends ledger number turn turns trace changes before item after purpose words cut.2 e h
     ]
 
-module _ {rules : Rules} {ledger : List Change} {turns : List FeedTurn} {changes : List Change} {before : List Item} {item : Item} (at : AtTurn rules ledger turns changes before item) where
+module _ {rules : Rules} {ledger : List Change} {turns : List FeedTurn} {changes : List Change} {before : List Item} {item : Item} (at : AtTurn rules [] ledger turns changes before item) where
   begun-at : (purpose : Purpose) (words : List (List ℕ)) → IsAttempt purpose words item.event → slice_get turns (turns_begun before - 1) ≡ Some at.turn
   begun-at purpose words h =
       let one = turns_begun-front at.whole at.front item at.rest purpose words at.placed h in
@@ -181,6 +196,7 @@ module _ {rules : Rules} {ledger : List Change} {turns : List FeedTurn} {changes
   closes-at : (id : ℕ) (words : List (List ℕ)) → IsAttempt (Close id) words item.event → ClosesWhenDue ledger turns changes before id words
   closes-at id words h =
       let closed = closes-in_turn at.whole item id words (Contains-place at.items at.front item at.rest at.placed) h in
+      let so_far = closes-front at.whole at.front item at.rest id words at.placed h in
       let stood : at.stood ++ at.made ≡ ledger ++ (at.earlier ++ at.made) = ap (λ xs. xs ++ at.made) at.over ∙ append_assoc ledger at.earlier at.made in
       record {
         turn = at.turn;
@@ -189,23 +205,28 @@ module _ {rules : Rules} {ledger : List Change} {turns : List FeedTurn} {changes
         later = at.later;
         taken = begun-at (Close id) words h;
         made = at.joined ∙ sym (append_assoc at.earlier at.made at.later);
+        so_far = record {
+          settled = dones-append at.earlier at.made ∙ ap (λ xs. dones at.earlier ++ xs) (sym so_far.0) ∙ sym at.settled;
+          recorded = ap (map (λ (item : OpenRecord). item.id)) (opens-append at.earlier at.made) ∙ map-append (λ (item : OpenRecord). item.id) (opens at.earlier) (opens at.made)
+              ∙ ap (λ xs. map (λ (item : OpenRecord). item.id) (opens at.earlier) ++ xs) (sym so_far.1) ∙ sym at.attempted;
+        };
         lives = subst (λ (before_it : List Change). Contains (live before_it) closed.0) stood closed.1;
         due = closed.2;
         numbered = closed.3;
         closing = closed.4;
       }
 
-module _ (may_cut : Bool) (rules : Rules) (turns : List FeedTurn) (past : List Item) (ends : List ℕ) (ledger : List Change) (number : ℕ) (trace : List Item) (changes : List Change)
-    (run : LegalFrom may_cut rules past ends ledger number turns trace changes) where
+module _ (may_cut : Bool) (rules : Rules) (turns : List FeedTurn) (ends : List ℕ) (ledger : List Change) (number : ℕ) (trace : List Item) (changes : List Change)
+    (run : LegalFrom may_cut rules [] ends ledger number turns trace changes) where
   -- an open is attempted only for a datagram of the same turn that is granted
   pub opens-run : (before : List Item) (item : Item) (after : List Item) (id : ℕ) (words : List (List ℕ)) → trace ≡ before ++ item ∷ after → IsAttempt (Open id) words item.event
       → OpensByGrant rules ledger turns changes before id words
-  opens-run before item after id words e h = opens-at (at_turn may_cut rules turns past ends ledger number trace changes before item after (Open id) words run e h) id words h
+  opens-run before item after id words e h = opens-at (at_turn may_cut rules turns [] ends ledger number trace changes before item after (Open id) words run e h) id words h
 
   -- a close is attempted only for a live record that is due
   pub closes-run : (before : List Item) (item : Item) (after : List Item) (id : ℕ) (words : List (List ℕ)) → trace ≡ before ++ item ∷ after → IsAttempt (Close id) words item.event
       → ClosesWhenDue ledger turns changes before id words
-  closes-run before item after id words e h = closes-at (at_turn may_cut rules turns past ends ledger number trace changes before item after (Close id) words run e h) id words h
+  closes-run before item after id words e h = closes-at (at_turn may_cut rules turns [] ends ledger number trace changes before item after (Close id) words run e h) id words h
 
 ended_polled : (event : Event) (number : ℕ) (good : Bool) → event ≡ Ended number good → IsNoPoll event → ⊥
 ended_polled event number good e n = subst IsNoPoll e n

@@ -1,6 +1,6 @@
 -- Where the close ended that settled a record.
 use Rattle.std.proofs.Common.{◌≡◌, ℕ, Bool, true, false, cond, ◌==◌, List, [], ◌∷◌, ◌++◌, Option, Some, None, refl, sym, ap, ◌∙◌, subst, arith, inl, inr, append_assoc}
-use Rattle.std.specs.List.{find, cons_option, Contains}
+use Rattle.std.specs.List.{AllByRecursion, find, cons_option, Contains}
 use Rattle.std.specs.Prelude.{IsTrue}
 use Rattle.std.proofs.lemmas.Bool.{eqb-true}
 use Rattle.std.proofs.lemmas.Option.{cond_some}
@@ -54,6 +54,24 @@ ends-later past front items id e =
       closes = subst (λ (place : List Item). child_numbered e.number place ≡ Some (record { number = e.number; purpose = Close id })) same e.closes;
       clean = subst (λ (place : List Item). IsTrue (is_clean place e.number id)) same e.clean;
     }
+
+cons_option-append : {X : Type 0} (o : Option X) (xs ys : List X) → cons_option o (xs ++ ys) ≡ cons_option o xs ++ ys
+cons_option-append None xs ys = refl
+cons_option-append (Some x) xs ys = refl
+
+pub settled_in-append : (past a b : List Item) → settled_in past (a ++ b) ≡ settled_in past a ++ settled_in (past_after past a) b
+settled_in-append past [] b = refl
+settled_in-append past (item ∷ a) b =
+    ap (cons_option (settled_at past item.event)) (settled_in-append (item ∷ past) a b)
+    ∙ cons_option-append (settled_at past item.event) (settled_in (item ∷ past) a) (settled_in (past_after (item ∷ past) a) b)
+
+-- what the event settles nothing at any place
+abbrev pub SettlesNothing : Item → Type 0
+SettlesNothing item = (past : List Item) → settled_at past item.event ≡ None
+
+pub settled_in-none : (past items : List Item) → AllByRecursion SettlesNothing items → settled_in past items ≡ []
+settled_in-none past [] h = refl
+settled_in-none past (item ∷ items) h = rw (h.0 past) (settled_in-none (item ∷ past) items h.1)
 
 find-passes : {X : Type 0} (p : X → Bool) (xs : List X) (x : X) → find p xs ≡ Some x → p x ≡ true
 find-passes p [] x e = absurd cc

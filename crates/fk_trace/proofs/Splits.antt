@@ -35,6 +35,10 @@ place_of (y ∷ xs) x m =
 pub Contains-recursion : {X : Type 0} (P : X → Type 0) (xs : List X) (x : X) → AllByRecursion P xs → Contains xs x → P x
 Contains-recursion P xs x h m = All-contains P xs x (All-from_recursion P xs h) m
 
+pub recursion-behind : {X : Type 0} (P : X → Type 0) (xs ys : List X) → AllByRecursion P (xs ++ ys) → AllByRecursion P ys
+recursion-behind P [] ys h = h
+recursion-behind P (x ∷ xs) ys h = recursion-behind P xs ys h.1
+
 module _ {A B : Type 0} (R : A → B → Type 0) where
   -- what follows of the second elements
   pub second_of_zip : (P : B → Type 0) → ((a : A) (b : B) → R a b → P b) → (xs : List A) (ys : List B) → AllZip R xs ys → AllByRecursion P ys
@@ -52,6 +56,16 @@ module _ {A B : Type 0} (R : A → B → Type 0) where
       elim (Contains-cases c ys b m) [
         | inl e ↦ (a, Contains-head a xs, subst (λ (d : B). R a d) e z.0)
         | inr n ↦ let ih = first_of_zip xs ys b z.1 n in (ih.0, Contains-tail a xs ih.0 ih.1, ih.2)
+      ]
+
+  -- the second element at the place of a first one
+  pub second_at_zip : (xs : List A) (ys : List B) (a : A) → AllZip R xs ys → Contains xs a → (b : B) × Contains ys b × R a b
+  second_at_zip [] ys a z m = absurd (omega (arith, m.1))
+  second_at_zip (x ∷ xs) [] a z m = absurd z
+  second_at_zip (x ∷ xs) (b ∷ ys) a z m =
+      elim (Contains-cases x xs a m) [
+        | inl e ↦ (b, Contains-head b ys, subst (λ (y : A). R y b) e z.0)
+        | inr n ↦ let ih = second_at_zip xs ys a z.1 n in (ih.0, Contains-tail b ys ih.0 ih.1, ih.2)
       ]
 
 -- what holds of each pair of a list holds of each pair of its beginning

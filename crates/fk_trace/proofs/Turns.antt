@@ -10,18 +10,18 @@ use Rattle.fk_base.specs.declared.purpose.Purpose.TheVariants.{Open, Close}
 use Rattle.fk_trace.specs.declared.change.OpenRecord.{OpenRecord}
 use Rattle.fk_trace.specs.declared.change.Change.{Change}
 use Rattle.fk_trace.specs.declared.change.Change.TheVariants.{Open as OpenChange, Done}
-use Rattle.fk_trace.specs.Trace.{Event, Item, Child, attempt_of, is_turn}
+use Rattle.fk_trace.specs.Trace.{Event, Item, Child, attempt_of, is_turn, past_after}
 use Rattle.fk_trace.specs.Trace.Event.{Turn, Began, StartFailed, Ended, Runs, PollFailed}
 use Rattle.fk_trace.specs.Ledger.{opened_by, closed_by, opens, dones, live, seen, next_id}
 use Rattle.fk_trace.specs.Decision.{FeedTurn, Permit, Rules, Answer, answer}
 use Rattle.fk_trace.specs.Decision.Answer.{Nothing, Refuses, Opens}
-use Rattle.fk_trace.specs.Planned.{settled_in, recorded_by}
+use Rattle.fk_trace.specs.Planned.{settled_in, settled_at, recorded_by}
 use Rattle.fk_trace.specs.Legal.{IsPollOf, IsAttempt, AttemptsThatOpen, WholeTurn}
 use Rattle.fk_trace.specs.Headline.{turns_begun, opened_for, opened_by_attempt, opens_attempted, IsGranted}
 use Rattle.fk_trace.proofs.Lists.{Contains-cases}
-use Rattle.fk_trace.proofs.Splits.{Contains-recursion, second_of_zip, first_of_zip}
+use Rattle.fk_trace.proofs.Splits.{cases_joined, recursion-behind, Contains-place, Contains-recursion, second_of_zip, first_of_zip}
 use Rattle.fk_trace.proofs.Grants.{granted-opens}
-use Rattle.fk_trace.proofs.Settled.{EndsCleanly, ends-settled, ends-longer, ends-later}
+use Rattle.fk_trace.proofs.Settled.{settled_in-append, settled_in-none, SettlesNothing, EndsCleanly, ends-settled, ends-longer, ends-later}
 
 -- a poll neither begins a turn nor attempts anything
 poll-quiet : (child : Child) (event : Event) → IsPollOf child event → (is_turn event ≡ false) × (attempt_of event ≡ None)
@@ -42,6 +42,14 @@ attempt-is purpose words (Ended number good) h = absurd h
 attempt-is purpose words (Runs number) h = absurd h
 attempt-is purpose words (PollFailed number) h = absurd h
 
+attempt-settles_none : (purpose : Purpose) (words : List (List ℕ)) (event : Event) → IsAttempt purpose words event → (past : List Item) → settled_at past event ≡ None
+attempt-settles_none purpose words (Turn number) h past = absurd h
+attempt-settles_none purpose words (Began number other others) h past = refl
+attempt-settles_none purpose words (StartFailed other others) h past = refl
+attempt-settles_none purpose words (Ended number good) h past = absurd h
+attempt-settles_none purpose words (Runs number) h past = absurd h
+attempt-settles_none purpose words (PollFailed number) h past = absurd h
+
 -- one event attempts one thing
 attempts-same : (purpose other : Purpose) (words others : List (List ℕ)) (event : Event) → IsAttempt purpose words event → IsAttempt other others event → (purpose ≡ other) × (words ≡ others)
 attempts-same purpose other words others (Turn number) h g = absurd h
@@ -58,7 +66,7 @@ turns_begun-none : (items : List Item) → AllByRecursion (λ item. is_turn item
 turns_begun-none [] h = refl
 turns_begun-none (item ∷ items) h = rw h.0 (turns_begun-none items h.1)
 
-turns_begun-turn : (item : Item) (items : List Item) → is_turn item.event ≡ true → turns_begun (item ∷ items) ≡ suc (turns_begun items)
+pub turns_begun-turn : (item : Item) (items : List Item) → is_turn item.event ≡ true → turns_begun (item ∷ items) ≡ suc (turns_begun items)
 turns_begun-turn item items h = rw h refl
 
 pub opens_attempted-append : (a b : List Item) → opens_attempted (a ++ b) ≡ opens_attempted a ++ opens_attempted b
@@ -75,6 +83,13 @@ opened-turns (Refuses why) opened h = rw h tt
 opened-turns (Opens item permit) [] h = absurd h
 opened-turns (Opens item permit) (x ∷ []) h = ((attempt-is (Open item.id) permit.opening x.event h).0, tt)
 opened-turns (Opens item permit) (x ∷ y ∷ opened) h = absurd h
+
+opened-settle_none : (a : Answer) (opened : List Item) → AttemptsThatOpen a opened → AllByRecursion SettlesNothing opened
+opened-settle_none Nothing opened h = rw h tt
+opened-settle_none (Refuses why) opened h = rw h tt
+opened-settle_none (Opens item permit) [] h = absurd h
+opened-settle_none (Opens item permit) (x ∷ []) h = (attempt-settles_none (Open item.id) permit.opening x.event h, tt)
+opened-settle_none (Opens item permit) (x ∷ y ∷ opened) h = absurd h
 
 opened-ids : (a : Answer) (opened : List Item) → AttemptsThatOpen a opened → opens_attempted opened ≡ map (λ item. item.id) (opens (recorded_by a))
 opened-ids Nothing opened h = rw h refl
@@ -131,10 +146,10 @@ pub data MakesOne (ledger changes : List Change) : Type 0 where
   MakesOpen : (item : OpenRecord) → opens changes ≡ item ∷ [] → item.id ≡ next_id ledger → (Contains (seen ledger) item.digest.0 → ⊥) → MakesOne ledger changes
 
 module _ {rules : Rules} {past : List Item} {ends : List ℕ} {ledger : List Change} {number : ℕ} {turn : FeedTurn} {items : List Item} {changes : List Change} (whole : WholeTurn rules past ends ledger number turn items changes) where
-  begins-turn : is_turn whole.start.event ≡ true
+  pub begins-turn : is_turn whole.start.event ≡ true
   begins-turn = ap is_turn whole.nothing_else.0
 
-  each-poll : (P : Item → Type 0) → ((child : Child) (item : Item) → IsPollOf child item.event → P item) → AllByRecursion P whole.polled
+  pub each-poll : (P : Item → Type 0) → ((child : Child) (item : Item) → IsPollOf child item.event → P item) → AllByRecursion P whole.polled
   each-poll P h =
       second_of_zip (λ (child : Child) (item : Item). IsPollOf child item.event) P h
       whole.polls_each_running_child_once.order whole.polled whole.polls_each_running_child_once.answered
@@ -170,22 +185,33 @@ module _ {rules : Rules} {past : List Item} {ends : List ℕ} {ledger : List Cha
       let joined = turns_begun-append (start ∷ front) (item ∷ rest) in
       omega arith
 
+  -- an attempt before the closes is that of the open
+  attempted-first : (item : Item) (purpose : Purpose) (words : List (List ℕ)) → Contains (whole.start ∷ (whole.polled ++ whole.opened)) item → IsAttempt purpose words item.event → Contains whole.opened item
+  attempted-first item purpose words m h =
+      let facts = attempt-is purpose words item.event h in
+      let quiet = each-poll (λ (x : Item). attempt_of x.event ≡ None) (λ child x g. (poll-quiet child x.event g).1) in
+      elim (Contains-cases whole.start (whole.polled ++ whole.opened) item m) [
+        | inl same ↦ absurd (let one = begins-turn in let e = ap (λ (x : Item). is_turn x.event) same in let none = facts.0 in cc)
+        | inr behind ↦ elim (Contains-append_cases whole.polled whole.opened item behind) [
+          | inl poll ↦ absurd (facts.1 (Contains-recursion (λ (x : Item). attempt_of x.event ≡ None) whole.polled item quiet poll))
+          | inr among ↦ among
+        ]
+      ]
+
   -- an attempt is that of the open or of a close
   attempted-in : (item : Item) (purpose : Purpose) (words : List (List ℕ)) → Contains items item → IsAttempt purpose words item.event → Contains whole.opened item ⊎ Contains whole.closed item
   attempted-in item purpose words m h =
-      let facts = attempt-is purpose words item.event h in
       let placed : Contains (whole.start ∷ (whole.polled ++ whole.opened) ++ whole.closed) item = subst (λ (xs : List Item). Contains xs item) whole.nothing_else.1 m in
-      let quiet = each-poll (λ (x : Item). attempt_of x.event ≡ None) (λ child x g. (poll-quiet child x.event g).1) in
-      elim (Contains-cases whole.start ((whole.polled ++ whole.opened) ++ whole.closed) item placed) [
-        | inl same ↦ absurd (let one = begins-turn in let e = ap (λ (x : Item). is_turn x.event) same in let none = facts.0 in cc)
-        | inr behind ↦ elim (Contains-append_cases (whole.polled ++ whole.opened) whole.closed item behind) [
-          | inl front ↦ elim (Contains-append_cases whole.polled whole.opened item front) [
-            | inl poll ↦ absurd (facts.1 (Contains-recursion (λ (x : Item). attempt_of x.event ≡ None) whole.polled item quiet poll))
-            | inr among ↦ inl among
-          ]
-          | inr among ↦ inr among
-        ]
+      elim (Contains-append_cases (whole.start ∷ (whole.polled ++ whole.opened)) whole.closed item placed) [
+        | inl first ↦ inl (attempted-first item purpose words first h)
+        | inr among ↦ inr among
       ]
+
+  close-not_first : (item : Item) (id : ℕ) (words : List (List ℕ)) → Contains (whole.start ∷ (whole.polled ++ whole.opened)) item → IsAttempt (Close id) words item.event → ⊥
+  close-not_first item id words m h =
+      let by = opened-by (answer rules (ledger ++ whole.settled) turn) whole.opened item whole.attempts_that_open_once (attempted-first item (Close id) words m h) in
+      let same = (attempts-same (Close id) (Open by.0.id) words by.1.opening item.event h by.3).0 in
+      cc
 
   close-at : (item : Item) → Contains whole.closed item
       → (closing : OpenRecord) × Contains whole.attempts_each_due_idle_close_once.order closing × IsAttempt (Close closing.id) closing.close item.event
@@ -193,7 +219,7 @@ module _ {rules : Rules} {past : List Item} {ends : List ℕ} {ledger : List Cha
       first_of_zip (λ (closing : OpenRecord) (x : Item). IsAttempt (Close closing.id) closing.close x.event) whole.attempts_each_due_idle_close_once.order whole.closed item
       whole.attempts_each_due_idle_close_once.attempted m
 
-  settled-opens : opens whole.settled ≡ []
+  pub settled-opens : opens whole.settled ≡ []
   settled-opens = ap opens whole.settles_clean_good_ends ∙ opens-dones (settled_in (whole.start ∷ past) whole.polled)
 
   changes-opens : opens changes ≡ opens whole.recorded
@@ -240,19 +266,42 @@ module _ {rules : Rules} {past : List Item} {ends : List ℕ} {ledger : List Cha
             )
       ]
 
+  -- what is recorded settles nothing
+  pub settled-dones : dones changes ≡ dones whole.settled
+  settled-dones =
+      ap dones whole.nothing_else.2 ∙ dones-append whole.settled whole.recorded
+      ∙ ap (λ xs. dones whole.settled ++ xs) (ap dones whole.records_what_is_granted ∙ dones-recorded (answer rules (ledger ++ whole.settled) turn))
+      ∙ append-nil (dones whole.settled)
+
+  changes-dones : dones changes ≡ settled_in (whole.start ∷ past) whole.polled
+  changes-dones = settled-dones ∙ ap dones whole.settles_clean_good_ends ∙ dones-dones (settled_in (whole.start ∷ past) whole.polled)
+
   -- a record is settled by a clean close that ended well
   pub settles-in_turn : (id : ℕ) → Contains (dones changes) id → EndsCleanly past items id
   settles-in_turn id m =
-      let ids : List ℕ = settled_in (whole.start ∷ past) whole.polled in
-      let all : dones changes ≡ ids =
-      ap dones whole.nothing_else.2 ∙ dones-append whole.settled whole.recorded
-      ∙ ap (λ xs. dones whole.settled ++ xs) (ap dones whole.records_what_is_granted ∙ dones-recorded (answer rules (ledger ++ whole.settled) turn))
-      ∙ append-nil (dones whole.settled) ∙ ap dones whole.settles_clean_good_ends ∙ dones-dones ids in
-      let ends_there = ends-settled (whole.start ∷ past) whole.polled id (subst (λ (xs : List ℕ). Contains xs id) all m) in
+      let ends_there = ends-settled (whole.start ∷ past) whole.polled id (subst (λ (xs : List ℕ). Contains xs id) changes-dones m) in
       let longer : EndsCleanly past (whole.start ∷ ((whole.polled ++ whole.opened) ++ whole.closed)) id =
       ends-later past (whole.start ∷ []) ((whole.polled ++ whole.opened) ++ whole.closed) id
       (ends-longer (whole.start ∷ past) (whole.polled ++ whole.opened) whole.closed id (ends-longer (whole.start ∷ past) whole.polled whole.opened id ends_there)) in
       subst (λ (xs : List Item). EndsCleanly past xs id) (sym whole.nothing_else.1) longer
+
+  closes-settle_none : AllByRecursion SettlesNothing whole.closed
+  closes-settle_none = each-close SettlesNothing (λ closing item h. attempt-settles_none (Close closing.id) closing.close item.event h)
+
+  -- the Dones of a turn are what its items settle
+  pub settled_in-whole : settled_in past items ≡ dones changes
+  settled_in-whole =
+      let begun : List Item = whole.start ∷ past in
+      let none : settled_at past whole.start.event ≡ None = ap (settled_at past) whole.nothing_else.0 in
+      ap (settled_in past) whole.nothing_else.1
+      ∙ ap (λ (o : Option ℕ). cons_option o (settled_in begun ((whole.polled ++ whole.opened) ++ whole.closed))) none
+      ∙ settled_in-append begun (whole.polled ++ whole.opened) whole.closed
+      ∙ ap (λ xs. settled_in begun (whole.polled ++ whole.opened) ++ xs) (settled_in-none (past_after begun (whole.polled ++ whole.opened)) whole.closed closes-settle_none)
+      ∙ append-nil (settled_in begun (whole.polled ++ whole.opened))
+      ∙ settled_in-append begun whole.polled whole.opened
+      ∙ ap (λ xs. settled_in begun whole.polled ++ xs)
+      (settled_in-none (past_after begun whole.polled) whole.opened (opened-settle_none (answer rules (ledger ++ whole.settled) turn) whole.opened whole.attempts_that_open_once))
+      ∙ append-nil (settled_in begun whole.polled) ∙ sym changes-dones
 
   -- the opens that are attempted are those of the records that are made
   pub opens_attempted-whole : opens_attempted items ≡ map (λ item. item.id) (opens changes)
@@ -272,6 +321,27 @@ module _ {rules : Rules} {past : List Item} {ends : List ℕ} {ledger : List Cha
       ∙ ap (λ xs. xs ++ opens_attempted whole.opened) polls
       ∙ opened-ids a whole.opened whole.attempts_that_open_once
       ∙ sym (ap (map (λ (item : OpenRecord). item.id)) (changes-opens ∙ ap opens whole.records_what_is_granted))
+
+  -- behind a close there are only closes
+  close-last : (P : Item → Type 0) (front : List Item) (item : Item) (rest : List Item) (id : ℕ) (words : List (List ℕ)) → AllByRecursion P whole.closed
+      → items ≡ front ++ item ∷ rest → IsAttempt (Close id) words item.event → AllByRecursion P (item ∷ rest)
+  close-last P front item rest id words all e h =
+      elim (cases_joined (whole.start ∷ (whole.polled ++ whole.opened)) whole.closed front item rest (sym whole.nothing_else.1 ∙ e)) [
+        | inl s ↦ absurd (close-not_first item id words (Contains-place (whole.start ∷ (whole.polled ++ whole.opened)) front item s.0 s.1) h)
+        | inr s ↦ recursion-behind P s.0 (item ∷ rest) (subst (AllByRecursion P) s.2 all)
+      ]
+
+  -- where a close is attempted, all changes of the turn are those of the items before it
+  pub closes-front : (front : List Item) (item : Item) (rest : List Item) (id : ℕ) (words : List (List ℕ)) → items ≡ front ++ item ∷ rest → IsAttempt (Close id) words item.event
+      → (settled_in past front ≡ dones changes) × (opens_attempted front ≡ map (λ item. item.id) (opens changes))
+  closes-front front item rest id words e h =
+      let settled = settled_in-none (past_after past front) (item ∷ rest) (close-last SettlesNothing front item rest id words closes-settle_none e h) in
+      let opened = opens_attempted-none (item ∷ rest)
+      (close-last (λ (x : Item). opened_by_attempt (attempt_of x.event) ≡ None) front item rest id words
+      (each-close (λ (x : Item). opened_by_attempt (attempt_of x.event) ≡ None) (λ closing x g. (attempt-is (Close closing.id) closing.close x.event g).2)) e h) in (
+        sym (append-nil (settled_in past front)) ∙ ap (λ xs. settled_in past front ++ xs) (sym settled) ∙ sym (settled_in-append past front (item ∷ rest)) ∙ ap (settled_in past) (sym e) ∙ settled_in-whole,
+        sym (append-nil (opens_attempted front)) ∙ ap (λ xs. opens_attempted front ++ xs) (sym opened) ∙ sym (opens_attempted-append front (item ∷ rest)) ∙ ap opens_attempted (sym e) ∙ opens_attempted-whole,
+      )
 
   -- a turn makes one record at most
   pub makes_one : MakesOne ledger changes
