@@ -10,16 +10,16 @@ TRIAL = --trial tcp/22 30 /bin/o /bin/c
 
 SOURCES := crates.txt HANDLES $(shell find crates -name out -prune -o -type f \( -name '*.rt' -o -name '*.antt' \) -print)
 
-.PHONY: all demo check try install uninstall help is_prefix
+.PHONY: all demo check try bench install uninstall help is_prefix
 
 all: $(PROGRAMS:%=bin/%) ## proves and builds the programs, and leaves them in bin/
 
-# `rt run` proves the crate and all below it, builds the program and runs it, here on an empty input.
-bin/fwknopd: $(SOURCES)
-	cd crates/fwknopd && rt run -- $(TRIAL) </dev/null >/dev/null
+# `rt run` proves the crate and all below it, builds the program and runs it, here with its stored words on an empty input.
+bin/%: $(SOURCES)
+	cd crates/$* && rt run -- $$(cat args) </dev/null >/dev/null
 	mkdir -p bin
-	cp crates/fwknopd/out/fwknopd bin/fwknopd.new
-	mv bin/fwknopd.new bin/fwknopd
+	cp crates/$*/out/$* bin/$*.new
+	mv bin/$*.new bin/$*
 
 demo: bin/fwknopd ## runs the sample trial examples/trial.txt with the built program
 	@bin/fwknopd $(TRIAL) <examples/trial.txt
@@ -30,6 +30,10 @@ check: ## runs the gate: proofs, tests, planted bugs, programs and the scripts o
 try: ## runs the sample trial in under a minute, from an unproved build
 	@echo "make try: this build is UNPROVED: rt try compiles the sources and proves nothing" >&2
 	@cd crates/fwknopd && rt try -- $(TRIAL) <../../examples/trial.txt
+
+bench: bin/fwknopd bin/fk_speed ## measures the built programs; bench/README.md says how to read the tables
+	bench/trial
+	bench/primitives
 
 install: is_prefix all ## copies the programs to PREFIX/bin, where PREFIX is a folder (/usr/local if none is given)
 	@set -e; to="$$PREFIX/bin"; \

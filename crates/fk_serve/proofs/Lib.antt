@@ -13,3 +13,4 @@ pub mod RunLemmas
 pub mod RunSteps
 pub mod RunCauses
 pub mod WorkedRow
+pub mod Verdicts

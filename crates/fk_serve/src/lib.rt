@@ -10,6 +10,7 @@
 mod admission;
 mod closes;
 mod command;
+mod laws;
 mod polls;
 mod run;
 #[cfg(test)]
@@ -18,4 +19,5 @@ mod trial;
 mod turn;
 
 pub use command::Command;
+pub use laws::trial_rules_speak_of_fields;
 pub use run::fwknopd_run;
