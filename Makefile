@@ -1,6 +1,6 @@
 # What a user calls; `make help` lists it. The proving and building is done by `rt`, the command of the Rattle kit.
 
-PREFIX = /usr/local
+PREFIX ?= /usr/local
 export PREFIX
 
 PROGRAMS = fwknopd
@@ -16,10 +16,11 @@ all: $(PROGRAMS:%=bin/%) ## proves and builds the programs, and leaves them in b
 
 # `rt run` proves the crate and all below it, builds the program and runs it, here with its stored words on an empty input.
 bin/%: $(SOURCES)
-	cd crates/$* && rt run -- $$(cat args) </dev/null >/dev/null
-	mkdir -p bin
-	cp crates/$*/out/$* bin/$*.new
-	mv bin/$*.new bin/$*
+	@mkdir -p bin
+	@echo "proving and building $* (some minutes where nothing was built; what rt says goes to bin/$*.log)" >&2
+	@cd crates/$* && rt run -- $$(cat args) </dev/null >../../bin/$*.log 2>&1 || { tail -n 40 ../../bin/$*.log >&2; exit 1; }
+	@cp crates/$*/out/$* bin/$*.new
+	@mv bin/$*.new bin/$*
 
 demo: bin/fwknopd ## runs the sample trial examples/trial.txt with the built program
 	@bin/fwknopd $(TRIAL) <examples/trial.txt
