@@ -129,41 +129,41 @@ module _ (words : List (List ℕ)) (left_old left_new written_old written_new : 
 
   pub run-usage : (answer : Status) → RunsSo answer → answer ≡ status.Usage → (command : Command) → IsTrialCommand words command → ⊥
   run-usage answer (inl (command, is, run)) usage other says = status-usage run.ending run.cut answer run.answered usage
-  run-usage answer (inr (inl (none, refuses))) usage other says = none other says
+  run-usage answer (inr (inl (none, untouched, refuses))) usage other says = none other says
   run-usage answer (inr (inr (no_memory, left, written))) usage other says = cc
 
   pub run-no_command : (answer : Status) → RunsSo answer → ((command : Command) → IsTrialCommand words command → ⊥) → (answer ≡ status.Usage) ⊎ (answer ≡ status.NoMemory)
   run-no_command answer (inl (command, is, run)) none = absurd (none command is)
-  run-no_command answer (inr (inl (none, refuses))) no_command = inl refuses.answered
+  run-no_command answer (inr (inl (none, untouched, refuses))) no_command = inl refuses.answered
   run-no_command answer (inr (inr (no_memory, left, written))) no_command = inr no_memory
 
   pub run-read_fault : (answer : Status) → RunsSo answer → answer ≡ status.ReadFault → Rose read_old read_new
   run-read_fault answer (inl (command, is, run)) fault = status-read run.ending run.cut answer run.answered fault
-  run-read_fault answer (inr (inl (none, refuses))) fault = absurd (let e = refuses.answered in cc)
+  run-read_fault answer (inr (inl (none, untouched, refuses))) fault = absurd (let e = refuses.answered in cc)
   run-read_fault answer (inr (inr (no_memory, left, written))) fault = absurd (cc)
 
   pub run-sink_fault : (answer : Status) → RunsSo answer → answer ≡ status.SinkFault → Rose write_old write_new
   run-sink_fault answer (inl (command, is, run)) fault = status-sink run.ending run.cut answer run.answered fault
-  run-sink_fault answer (inr (inl (none, refuses))) fault = absurd (let e = refuses.answered in cc)
+  run-sink_fault answer (inr (inl (none, untouched, refuses))) fault = absurd (let e = refuses.answered in cc)
   run-sink_fault answer (inr (inr (no_memory, left, written))) fault = absurd (cc)
 
   pub run-config : (answer : Status) → RunsSo answer → answer ≡ status.Config → IsSomeAnd left_old HasOnlyTurns → ⊥
   run-config answer (inl (command, is, run)) fault all = status-config run.ending run.turns run.cut answer run.answered run.reading all fault
-  run-config answer (inr (inl (none, refuses))) fault all = let e = refuses.answered in cc
+  run-config answer (inr (inl (none, untouched, refuses))) fault all = let e = refuses.answered in cc
   run-config answer (inr (inr (no_memory, left, written))) fault all = cc
 
   pub run-complete : (answer : Status) → RunsSo answer → (command : Command) → IsTrialCommand words command → IsSomeAnd left_old HasOnlyTurns
       → (Rose read_old read_new → ⊥) → (Rose write_old write_new → ⊥)
       → (answer ≡ status.Done) ⊎ (answer ≡ status.NoMemory)
   run-complete answer (inl (other, is, run)) command says all unread unwritten = status-complete run.ending run.turns run.cut answer run.answered run.reading all unread unwritten
-  run-complete answer (inr (inl (none, refuses))) command says all unread unwritten = absurd (none command says)
+  run-complete answer (inr (inl (none, untouched, refuses))) command says all unread unwritten = absurd (none command says)
   run-complete answer (inr (inr (no_memory, left, written))) command says all unread unwritten = inr no_memory
 
   pub run-faulty : (answer : Status) → RunsSo answer → (command : Command) → IsTrialCommand words command → IsSomeAnd left_old HasFaultyLine
       → (Rose read_old read_new → ⊥)
       → (answer ≡ status.Config) ⊎ (answer ≡ status.NoMemory)
   run-faulty answer (inl (other, is, run)) command says fault unread = status-faulty run.ending run.turns run.cut answer run.answered run.reading fault unread
-  run-faulty answer (inr (inl (none, refuses))) command says fault unread = absurd (none command says)
+  run-faulty answer (inr (inl (none, untouched, refuses))) command says fault unread = absurd (none command says)
   run-faulty answer (inr (inr (no_memory, left, written))) command says fault unread = inr no_memory
 
 -- all that a run's answer says

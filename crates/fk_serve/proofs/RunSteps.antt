@@ -1,5 +1,5 @@
 -- How a session of the trial goes on over a line, stops, and says its end.
-use Rattle.std.proofs.Common.{◌≡◌, ℕ, ◌+◌, ◌<◌, Bool, true, false, List, [], ◌∷◌, ◌++◌, length, Option, Some, None, inl, inr, ⊎_elim, refl, sym, ap, subst, ◌∙◌, append-nil, arith}
+use Rattle.std.proofs.Common.{◌≡◌, ℕ, ◌+◌, ◌<◌, Bool, true, false, List, [], ◌∷◌, ◌++◌, length, Option, Some, None, inl, inr, ⊎_elim, refl, sym, ap, subst, ◌∙◌, append-nil, append_assoc, length-append, zero-le, arith}
 use Rattle.std.proofs.Common.{Result, Ok, Err, OnOk}
 use Rattle.std.specs.Result.{is_err}
 use Rattle.std.specs.List.{concat}
@@ -9,10 +9,10 @@ use Rattle.std.proofs.lemmas.Bool.{cases_Bool}
 use Rattle.fk_base.specs.declared.status.Status.{Status}
 use Rattle.fk_base.specs.declared.status.Status.TheVariants as status
 use Rattle.fk_host.specs.Count.{Rose}
-use Rattle.fk_host.specs.Stream.{Gives}
-use Rattle.fk_host.proofs.Streams.{Gives-nil}
-use Rattle.fk_input.specs.Lines.{pieces, IsPiece}
-use Rattle.fk_input.specs.Reading.{Reading, rest, TakesLine, FindsEnd, TakesLongLine, PassesLimit, BreaksOff}
+use Rattle.fk_host.specs.Stream.{Takes, Gives}
+use Rattle.fk_host.proofs.Streams.{Takes-append, Gives-nil}
+use Rattle.fk_input.specs.Lines.{pieces, IsPiece, input_limit}
+use Rattle.fk_input.specs.Reading.{Reading, IsBounded, rest, TakesLine, FindsEnd, TakesLongLine, PassesLimit, BreaksOff}
 use Rattle.fk_input.specs.Progress.{HasRead}
 use Rattle.fk_input.proofs.Progress.{HasRead-new, HasRead-line, Reads-end, Reads-bad_line, Reads-long_line, Reads-limit, Reads-broken}
 use Rattle.fk_trace.specs.declared.change.Change.{Change}
@@ -34,7 +34,7 @@ use Rattle.fk_serve.specs.declared.run.Stop.TheVariants as stop
 use Rattle.fk_serve.specs.Rules.{rules_of}
 use Rattle.fk_serve.specs.Turns.{IsTurnLine}
 use Rattle.fk_serve.specs.Trial.{Keeps, ServesTurn}
-use Rattle.fk_serve.specs.Run.{HasTurns, HasStatus, RunsTrial, RefusesWords, counts_of}
+use Rattle.fk_serve.specs.Run.{HasTurns, HasStatus, TakesAtMost, RunsTrial, RefusesWords, counts_of}
 use Rattle.fk_serve.specs.RunStates.{outside, Outside, HasSent, IsWholeRun, Going, CanEnd, CanSay, ending_of, HasRisen, Stopped, ServesLine, SaysEnd, status_of}
 use Rattle.fk_serve.proofs.RunLemmas.{served-more, served-none, whole-served, sent-none}
 
@@ -141,15 +141,43 @@ turns-end None before left old new turns h f = tt
 turns-end (Some text) before left old new turns h f =
     (Reads-end IsTurnLine (Some text) before (rest new left) old new turns h f, left-none text before left old new turns h f)
 
+-- nothing was taken
+pub takes-nothing : (most : ℕ) (left : Option (List ℕ)) → TakesAtMost most left left
+takes-nothing most None = ([], zero-le, tt)
+takes-nothing most (Some text) = ([], zero-le, refl)
+
+-- a bounded reader has used up this front of the input
+front-bounded : (front : List ℕ) (start left : Option (List ℕ)) (reader : Reading)
+    → Takes front start (rest reader left) → reader.offset ≡ length front → IsBounded reader → TakesAtMost (input_limit + 1) start left
+front-bounded front None left reader taken offset bounded = ([], zero-le, tt)
+front-bounded front (Some text) None reader taken offset bounded = absurd taken
+front-bounded front (Some text) (Some others) reader taken offset bounded = (
+  front ++ reader.pending,
+  omega (arith, length-append front reader.pending),
+  taken ∙ sym (append_assoc front reader.pending others),
+)
+
+-- a bounded reader has used up this piece behind the lines that were read
+takes-bounded : (piece : List ℕ) (start before left : Option (List ℕ)) (old new : Reading) (turns : List FeedTurn)
+    → HasRead IsTurnLine start before old turns
+    → Takes piece before (rest new left) → new.offset ≡ old.offset + length piece → IsBounded new
+    → TakesAtMost (input_limit + 1) start left
+takes-bounded piece start before left old new turns h taken offset bounded =
+    front-bounded (concat h.used ++ piece) start left new
+    (Takes-append (concat h.used) piece start before (rest new left) h.taken taken)
+    (omega (arith, offset, h.offset, length-append (concat h.used) piece))
+    bounded
+
 -- a session that serves no further line
 pub stopped-by : (command : Command) (start : Outside) (left left2 written : Option (List ℕ)) (read_faults read_faults2 write_faults : ℕ) (old new : Session) (how : Stop)
     → (h : Going command start (outside left read_faults written write_faults) old)
     → new.turns ≡ old.turns → new.broken ≡ old.broken
     → HasTurns (ending_of how (length h.turns + 1)) start.left left2 h.turns
     → HasRisen how start.read_faults read_faults2
+    → TakesAtMost (input_limit + 1) start.left left2
     → ((changes : List Change) → length old.trial.machine.kept ≡ length (live changes) → CanSay how (CanEnd new h.turns h.lines changes))
     → Stopped command start (outside left2 read_faults2 written write_faults) new how
-stopped-by command start left left2 written read_faults read_faults2 write_faults old new how h turns broken reading risen can =
+stopped-by command start left left2 written read_faults read_faults2 write_faults old new how h turns broken reading risen bounded can =
     let w = whole-served command old.trial.machine.kept old.trial.running.items old.trial.seen.items h.turns h.lines h.served in
     record {
       turns = h.turns;
@@ -161,6 +189,7 @@ stopped-by command start left left2 written read_faults read_faults2 write_fault
       reading = reading;
       sent = subst (λ (b : Bool). HasSent (text_of_lines (ReadyLine 0 ∷ h.lines)) b start.written written start.write_faults write_faults) (sym broken) h.sent;
       cause = risen;
+      bounded = bounded;
       few = omega (arith, turns, h.few, h.read.within);
       can_end = can w.changes w.owed;
     }
@@ -178,17 +207,24 @@ can-end command start now old new h trial page turns changes owed = record {
   owed = ap (λ (t : Trial). length t.machine.kept) trial ∙ owed;
 }
 
-module _ (command : Command) (start : Outside) (left left2 written : Option (List ℕ)) (read_faults read_faults2 write_faults : ℕ) (old new : Session) (h : Going command start (outside left read_faults written write_faults) old) (turns : new.turns ≡ old.turns) (broken : new.broken ≡ old.broken) where
-  pub stopped-no_memory : Stopped command start (outside left2 read_faults2 written write_faults) new stop.NoMemory
-  stopped-no_memory =
+module _ (command : Command) (start : Outside) (left left2 written : Option (List ℕ)) (read_faults read_faults2 write_faults : ℕ) (old new : Session) (h : Going command start (outside left read_faults written write_faults) old) (turns : new.turns ≡ old.turns) (broken : new.broken ≡ old.broken) (bounded : IsBounded new.reader) where
+  -- at most so much was taken with this piece
+  most-taken : (piece : List ℕ) → Takes piece (rest old.reader left) (rest new.reader left2) → new.reader.offset ≡ old.reader.offset + length piece → TakesAtMost (input_limit + 1) start.left left2
+  most-taken piece taken offset = takes-bounded piece start.left (rest old.reader left) left2 old.reader new.reader h.turns h.read taken offset bounded
+
+  pub stopped-no_memory : TakesLine old.reader new.reader (rest old.reader left) (rest new.reader left2) → Stopped command start (outside left2 read_faults2 written write_faults) new stop.NoMemory
+  stopped-no_memory takes =
       stopped-by command start left left2 written read_faults read_faults2 write_faults old new stop.NoMemory h turns broken
-      (silent-so_far start.left (rest old.reader left) left2 old.reader h.turns h.read) tt (λ changes owed. tt)
+      (silent-so_far start.left (rest old.reader left) left2 old.reader h.turns h.read) tt
+      (most-taken takes.piece takes.taken takes.offset)
+      (λ changes owed. tt)
 
   module _ (trial : new.trial ≡ old.trial) (page : new.page ≡ old.page) where
     pub stopped-end : FindsEnd old.reader new.reader (rest old.reader left) (rest new.reader left2) → Stopped command start (outside left2 read_faults2 written write_faults) new stop.End
     stopped-end finds =
         stopped-by command start left left2 written read_faults read_faults2 write_faults old new stop.End h turns broken
         (turns-end start.left (rest old.reader left) left2 old.reader new.reader h.turns h.read finds) tt
+        (most-taken [] finds.nothing.2 (omega (arith, finds.offset)))
         (can-end command start (outside left read_faults written write_faults) old new h trial page turns)
 
     pub stopped-bad_line : TakesLine old.reader new.reader (rest old.reader left) (rest new.reader left2) → ((turn : FeedTurn) → IsTurnLine new.reader.line turn → ⊥)
@@ -196,18 +232,21 @@ module _ (command : Command) (start : Outside) (left left2 written : Option (Lis
     stopped-bad_line takes none =
         stopped-by command start left left2 written read_faults read_faults2 write_faults old new stop.BadLine h turns broken
         (Reads-bad_line IsTurnLine start.left (rest old.reader left) (rest new.reader left2) old.reader new.reader h.turns h.read takes none) tt
+        (most-taken takes.piece takes.taken takes.offset)
         (can-end command start (outside left read_faults written write_faults) old new h trial page turns)
 
     pub stopped-long_line : TakesLongLine old.reader new.reader (rest old.reader left) (rest new.reader left2) → Stopped command start (outside left2 read_faults2 written write_faults) new stop.BadLine
     stopped-long_line takes =
         stopped-by command start left left2 written read_faults read_faults2 write_faults old new stop.BadLine h turns broken
         (Reads-long_line IsTurnLine start.left (rest old.reader left) (rest new.reader left2) old.reader new.reader h.turns h.read takes) tt
+        (most-taken takes.front takes.taken takes.offset)
         (can-end command start (outside left read_faults written write_faults) old new h trial page turns)
 
     pub stopped-limit : PassesLimit old.reader new.reader (rest old.reader left) (rest new.reader left2) → Stopped command start (outside left2 read_faults2 written write_faults) new stop.LongInput
     stopped-limit passes =
         stopped-by command start left left2 written read_faults read_faults2 write_faults old new stop.LongInput h turns broken
         (Reads-limit IsTurnLine start.left (rest old.reader left) (rest new.reader left2) old.reader new.reader h.turns h.read passes) tt
+        (most-taken passes.front passes.taken passes.offset)
         (can-end command start (outside left read_faults written write_faults) old new h trial page turns)
 
     pub stopped-failed : BreaksOff old.reader new.reader (rest old.reader left) (rest new.reader left2) → Rose read_faults read_faults2 → Stopped command start (outside left2 read_faults2 written write_faults) new stop.ReadFault
@@ -215,23 +254,25 @@ module _ (command : Command) (start : Outside) (left left2 written : Option (Lis
         stopped-by command start left left2 written read_faults read_faults2 write_faults old new stop.ReadFault h turns broken
         (Reads-broken IsTurnLine start.left (rest old.reader left) left2 old.reader new.reader h.turns h.read breaks)
         (subst (λ (n : ℕ). Rose n read_faults2) h.same_count rose)
+        (most-taken breaks.front breaks.taken breaks.offset)
         (can-end command start (outside left read_faults written write_faults) old new h trial page turns)
 
 -- the line that was read is not served
 pub stopped-line : (command : Command) (start : Outside) (left left2 written : Option (List ℕ)) (read_faults read_faults2 write_faults : ℕ) (old new : Session)
     → Going command start (outside left read_faults written write_faults) old
     → new.turns ≡ old.turns → new.broken ≡ old.broken
+    → IsBounded new.reader
     → TakesLine old.reader new.reader (rest old.reader left) (rest new.reader left2)
     → (how : Stop)
     → ServesLine command old.trial new.trial old.page new.page new.reader.line (Some how)
     → Stopped command start (outside left2 read_faults2 written write_faults) new how
-stopped-line command start left left2 written read_faults read_faults2 write_faults old new h turns broken takes stop.BadLine serves =
-    stopped-bad_line command start left left2 written read_faults read_faults2 write_faults old new h turns broken serves.1 serves.2 takes serves.0
-stopped-line command start left left2 written read_faults read_faults2 write_faults old new h turns broken takes stop.NoMemory serves =
-    stopped-no_memory command start left left2 written read_faults read_faults2 write_faults old new h turns broken
-stopped-line command start left left2 written read_faults read_faults2 write_faults old new h turns broken takes stop.End serves = absurd serves
-stopped-line command start left left2 written read_faults read_faults2 write_faults old new h turns broken takes stop.LongInput serves = absurd serves
-stopped-line command start left left2 written read_faults read_faults2 write_faults old new h turns broken takes stop.ReadFault serves = absurd serves
+stopped-line command start left left2 written read_faults read_faults2 write_faults old new h turns broken bounded takes stop.BadLine serves =
+    stopped-bad_line command start left left2 written read_faults read_faults2 write_faults old new h turns broken bounded serves.1 serves.2 takes serves.0
+stopped-line command start left left2 written read_faults read_faults2 write_faults old new h turns broken bounded takes stop.NoMemory serves =
+    stopped-no_memory command start left left2 written read_faults read_faults2 write_faults old new h turns broken bounded takes
+stopped-line command start left left2 written read_faults read_faults2 write_faults old new h turns broken bounded takes stop.End serves = absurd serves
+stopped-line command start left left2 written read_faults read_faults2 write_faults old new h turns broken bounded takes stop.LongInput serves = absurd serves
+stopped-line command start left left2 written read_faults read_faults2 write_faults old new h turns broken bounded takes stop.ReadFault serves = absurd serves
 
 -- the log of a whole run, by its lines
 log-of : (command : Command) (turns : List FeedTurn) (trace : List Item) (changes : List Change) (lines : List Line) (ending : Ending)

@@ -1,5 +1,5 @@
 -- What a run of the trial did, and what it answers.
-use Rattle.std.specs.Prelude.{◌≡◌, ◌⊎◌, ℕ, false, List, [], ◌++◌, length, map, Option, Some, None, IfSome}
+use Rattle.std.specs.Prelude.{◌≡◌, ◌⊎◌, ℕ, ◌+◌, ◌≤◌, false, List, [], ◌++◌, length, map, Option, Some, None, IfSome, IsSomeAnd}
 use Rattle.std.specs.List.{filter, range_with_len, AllByRecursion}
 use Rattle.fk_base.specs.declared.status.Status.{Status}
 use Rattle.fk_base.specs.declared.status.Status.TheVariants as status
@@ -50,6 +50,10 @@ HasTurns (AtLongInput line) before after turns = IfSome before (λ text. ReadsTu
 HasTurns AtReadFault before after turns = (taken : List ℕ) × Takes taken before after × ReadsTurns (filter is_fed (pieces taken)) turns None
 -- the turns are the first lines of the input
 HasTurns Silent before after turns = IfSome before (λ text. (lines : List (List ℕ)) × (others : List (List ℕ)) × (pieces text ≡ lines ++ others) × ReadsTurns lines turns None)
+
+-- at most so many bytes were taken from the front of the input, where it tells
+abbrev pub TakesAtMost : ℕ → Option (List ℕ) → Option (List ℕ) → Type 0
+TakesAtMost most before after = (taken : List ℕ) × (length taken ≤ most) × Takes taken before after
 
 -- What is known of the counts of faults of a run's input and output: that they rose in it, and that the output's is as
 -- before.
@@ -103,10 +107,10 @@ pub record RefusesWords (written_old written_new : Option (List ℕ)) (output_ro
   pub whole : (output_rose → ⊥) → cut ≡ []
   pub answered : answer ≡ status.Usage
 
--- A run of `fwknopd` on these words: a trial that they say, a refusal of words that say none, or want of memory before
--- anything was taken or written.
+-- A run of `fwknopd` on these words: a trial that they say, a refusal of words that say none, for which nothing is taken, or
+-- want of memory before anything was taken or written.
 abbrev pub Runs : List (List ℕ) → Option (List ℕ) → Option (List ℕ) → Option (List ℕ) → Option (List ℕ) → Counts → Status → Type 0
 Runs words left_old left_new written_old written_new counts answer =
     ((command : Command) × IsTrialCommand words command × RunsTrial command left_old left_new written_old written_new counts answer)
-    ⊎ ((((command : Command) → IsTrialCommand words command → ⊥) × RefusesWords written_old written_new counts.output_rose answer)
+    ⊎ ((((command : Command) → IsTrialCommand words command → ⊥) × (left_new ≡ left_old) × RefusesWords written_old written_new counts.output_rose answer)
     ⊎ ((answer ≡ status.NoMemory) × (left_new ≡ left_old) × (written_new ≡ written_old)))

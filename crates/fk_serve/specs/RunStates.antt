@@ -30,7 +30,7 @@ use Rattle.fk_serve.specs.declared.run.Stop.TheVariants as stop
 use Rattle.fk_serve.specs.Rules.{rules_of}
 use Rattle.fk_serve.specs.Turns.{IsTurnLine}
 use Rattle.fk_serve.specs.Trial.{Keeps, ServesTurn, IsTrialEvent}
-use Rattle.fk_serve.specs.Run.{IsTrialTrace, HasTurns}
+use Rattle.fk_serve.specs.Run.{IsTrialTrace, HasTurns, TakesAtMost}
 
 -- what the input has left and the output was given, where they tell, and their counts of faults
 pub record Outside : Type 0 where
@@ -133,6 +133,7 @@ pub record Stopped (command : Command) (start now : Outside) (session : Session)
   pub reading : HasTurns (ending_of how (length turns + 1)) start.left now.left turns
   pub sent : HasSent (text_of_lines (ReadyLine 0 ∷ lines)) session.broken start.written now.written start.write_faults now.write_faults
   pub cause : HasRisen how start.read_faults now.read_faults
+  pub bounded : TakesAtMost (input_limit + 1) start.left now.left
   pub few : session.turns ≤ input_limit
   pub can_end : CanSay how (CanEnd session turns lines changes)
 

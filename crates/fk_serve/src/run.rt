@@ -1,9 +1,9 @@
-ghost use Rattle.std.specs.Prelude.{◌≡◌, ◌<◌, ◌≤◌, ℕ, Bool, List, [], ◌++◌, length, Option, IfOk, OnOk, OnErr, IfNone, IsSomeAnd, ◌⊎◌};
+ghost use Rattle.std.specs.Prelude.{◌≡◌, ◌+◌, ◌<◌, ◌≤◌, ℕ, Bool, List, [], ◌++◌, length, Option, IfOk, OnOk, OnErr, IfNone, IsSomeAnd, ◌⊎◌};
 ghost use Rattle.fk_host.specs.Count.{Rose};
 ghost use Rattle.fk_input.specs.Lines.{input_limit};
 ghost use Rattle.fk_serve.specs.declared.command.Command.{Command};
 ghost use Rattle.fk_serve.specs.Command.{IsTrialCommand};
-ghost use Rattle.fk_serve.specs.Run.{Runs, RunsTrial, RefusesWords, HasOnlyTurns, HasFaultyLine, counts_of};
+ghost use Rattle.fk_serve.specs.Run.{Runs, RunsTrial, RefusesWords, HasOnlyTurns, HasFaultyLine, TakesAtMost, counts_of};
 ghost use Rattle.fk_serve.specs.Trial.{HasKept};
 ghost use Rattle.fk_serve.specs.RunStates.{Outside, outside, HasSent, Going, GoesOn, Stopped, ServesLine, SaysEnd, status_of};
 
@@ -37,6 +37,8 @@ pub fn fwknopd_run<I: Source, K: Sink>(
     ensures complete { (command : Command) → IsTrialCommand words.now command → IsSomeAnd (I.left input.old) HasOnlyTurns
         → ¬ Rose (I.faults input.old) (I.faults input.new) → ¬ Rose (K.faults out.old) (K.faults out.new)
         → (result ≡ Status.Done) ⊎ (result ≡ Status.NoMemory) }
+    // However long the input is, at most 67108865 bytes of it are taken.
+    ensures bound { TakesAtMost (input_limit + 1) (I.left input.old) (I.left input.new) }
 {
     match read_command(alloc, words) {
         Err(NoMemory) => Status::NoMemory,
@@ -59,8 +61,9 @@ fn run_trial<I: Source, K: Sink>(
     input: &mut I,
     out: &mut K,
 ) -> Status
-    ensures { RunsTrial command.now (I.left input.old) (I.left input.new) (K.written out.old) (K.written out.new)
+    ensures runs { RunsTrial command.now (I.left input.old) (I.left input.new) (K.written out.old) (K.written out.new)
         (counts_of (I.faults input.old) (I.faults input.new) (K.faults out.old) (K.faults out.new)) result }
+    ensures bound { TakesAtMost (input_limit + 1) (I.left input.old) (I.left input.new) }
 {
     let Ok(mut session) = Session::begin(alloc, out) else {
         return Status::NoMemory;
