@@ -145,6 +145,26 @@ fn keys_round_a_block(rt: HostRuntime) {
         ),
         (
             HashKind::Sha384,
+            63,
+            b"S24JLKouEJD/4SP21yj8qU52QRPydcd81gBihPE5QAIMX705d7U7FTsa1R4Ru8tg".as_slice(),
+        ),
+        (
+            HashKind::Sha384,
+            64,
+            b"uh7H7riGOIKwAxUFMasVl9Or++v+KYLgJzLUkxXDL0F3+3iSIZBUTpqhAtaRzrms".as_slice(),
+        ),
+        (
+            HashKind::Sha384,
+            65,
+            b"Vvp+giN/6U6kEDHDF/d1M11mXOIJCZpq7ukh1V1Qn1HgEMgIekt29qteItEth7ND".as_slice(),
+        ),
+        (
+            HashKind::Sha384,
+            127,
+            b"3+Boy75iUDNsPp9f/8tDm3gUc61dIclUJrUdj/PQoRzMKoh3FOch0g0kwJo6XcTM".as_slice(),
+        ),
+        (
+            HashKind::Sha384,
             128,
             b"tVkLBt0ahfXp/Q6VzSbfAG8CpxTTCt7KuEOG0/t2ICwrtSQ3h8dlMwbrPXeQLpW6".as_slice(),
         ),
