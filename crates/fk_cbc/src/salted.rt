@@ -46,6 +46,8 @@ pub fn open<L: Ledger>(
     ensures opened_steps { OnOk result (steps.new ≡ steps.old + block_count sealed.now) }
     ensures no_steps { (result ≡ Err OpenFault.NotSalted) ⊎ (result ≡ Err OpenFault.BadLength)
         → steps.new ≡ steps.old }
+    ensures padding_steps { result ≡ Err OpenFault.BadPadding → steps.new ≡ steps.old + block_count sealed.now }
+    ensures memory_steps { result ≡ Err OpenFault.NoMemory → steps.new ≡ steps.old }
     ensures least_steps { steps.old ≤ steps.new }
     ensures most_steps { steps.new ≤ steps.old + block_count sealed.now }
 {

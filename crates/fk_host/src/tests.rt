@@ -157,6 +157,20 @@ impl Write for Full {
     }
 }
 
+// A writer that takes all, and fails when it is to pass it on.
+#[derive(Drop)]
+struct Stuck;
+
+impl Write for Stuck {
+    fn write(&mut self, bytes: &[u8]) -> io::Result<usize> {
+        Ok(bytes.len())
+    }
+
+    fn flush(&mut self) -> io::Result<()> {
+        Err(io::ErrorKind::Other.into())
+    }
+}
+
 #[test]
 fn a_writer_is_a_sink(rt: HostRuntime) -> Result<(), Fail> {
     let mut text = Vec::new(rt.alloc());
@@ -165,6 +179,7 @@ fn a_writer_is_a_sink(rt: HostRuntime) -> Result<(), Fail> {
     assert_eq!(rt; write_all(&mut sink, b"def"), Ok(()));
     assert_eq!(rt; text.as_slice(), b"abcdef".as_slice());
     assert_eq!(rt; StdSink::new(Full).write(b"abc"), Err(Failed));
+    assert_eq!(rt; StdSink::new(Stuck).write(b"abc"), Err(Failed));
     Ok(())
 }
 

@@ -8,8 +8,8 @@ use Rattle.sha2.specs.Sha256.{sha256}
 use Rattle.sha2.specs.Sha512.{sha384, sha512}
 use Rattle.fk_text.specs.Text.{text_of}
 
--- The hash of a message: MD5 of RFC 1321, the others of FIPS 180-4. A message of 2 ^ 61 bytes or more, which the
--- standards leave out, is hashed with its length modulo that.
+-- The hash of a message: MD5 of RFC 1321, the others of FIPS 180-4. That standard leaves out messages of 2 ^ 61 bytes or more
+-- (of 2 ^ 125 for SHA-384 and SHA-512); they are hashed with their length modulo that, as RFC 1321 does for MD5.
 unfoldable pub hash_of : HashKind → List ℕ → List ℕ
 hash_of Md5 message = md5 message
 hash_of Sha1 message = sha1 message

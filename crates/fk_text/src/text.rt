@@ -14,7 +14,7 @@ pub fn put_text(alloc: Global, bytes: &[u8]) -> Result<Bytes, NoMemory>
     ensures { IfOk result (λ text. text ≡ text_of bytes.now) }
 {
     let text = STANDARD_NO_PAD.encode(alloc, bytes)?;
-    Bytes::copy(alloc, text.as_bytes())
+    Ok(text.into_bytes().into())
 }
 
 /// The bytes whose text is `text`. All faults are tested before memory is asked for.
@@ -75,7 +75,7 @@ fn take_right_text(alloc: Global, text: &[u8]) -> Result<Bytes, TextFault>
         (λ e. e ≡ TextFault.NoMemory) }
 {
     match STANDARD_NO_PAD.decode(alloc, text) {
-        Ok(bytes) => Ok(Bytes::copy(alloc, bytes.as_slice())?),
+        Ok(bytes) => Ok(bytes.into()),
         Err(DecodeAllocError::OutOfMemory) => Err(TextFault::NoMemory),
         Err(DecodeAllocError::DecodeError(_)) => unreachable!(),
     }

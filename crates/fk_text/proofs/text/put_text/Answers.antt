@@ -8,5 +8,6 @@ pub returns : goal.returns
 returns c =
     let e = text_of-encode_of c.args.bytes.now (IsBytes_from c.args.bytes.now c.type_inv.bytes) in
     let t = c.in_ok-text.ensures.text in
-    let b = c.as_bytes.ensures.value in
+    let b = c.into_bytes.ensures in
+    let v = c.into.ensures in
     grind (arith, common_steps)

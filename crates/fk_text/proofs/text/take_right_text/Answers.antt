@@ -10,11 +10,9 @@ unreachable-requires c =
     let err = rw c.in-Err-DecodeError.field-0-is at c.in-Err-DecodeError.ensures.err in
     absurd (not_both _ _ _ ok err)
 
-pub returns-in_ok-copy-in-Ok : goal.returns-in_ok-copy-in-Ok
-returns-in_ok-copy-in-Ok c =
+pub returns-in-Ok : goal.returns-in-Ok
+returns-in-Ok c =
     let bytes = c.in-Ok.ensures.bytes in
     let exact = c.in-Ok.ensures.exact (refl, refl) in
-    let value = c.as_slice.ensures.value in
-    let copy = c.in_ok-copy-in-Ok.ensures in
-    let same : c.in_ok-copy-in-Ok.field-0 ≡ c.in-Ok.bytes.items = cc in
+    let same : c.into.result ≡ c.in-Ok.bytes.items = c.into.ensures in
     rw same (bytes, exact ∙ sym (text_of-encode_of c.in-Ok.bytes.items bytes))
