@@ -18,7 +18,7 @@ use Rattle.fk_log.specs.Log.Ending.{AtEnd, AtBadLine, AtLongInput, AtReadFault, 
 use Rattle.fk_serve.specs.declared.command.Command.{Command}
 use Rattle.fk_serve.specs.Command.{IsTrialCommand}
 use Rattle.fk_serve.specs.Turns.{IsLineAt, IsTurnLine}
-use Rattle.fk_serve.specs.Run.{ReadsTurns, HasTurns, HasStatus, HasOnlyTurns, HasFaultyLine, counts_of, Runs}
+use Rattle.fk_serve.specs.Run.{ReadsTurns, HasTurns, HasStatus, HasOnlyTurns, HasOtherLine, counts_of, Runs}
 use Rattle.fk_serve.proofs.TurnLines.{cut_once, uncut, no_space_in_decimal, no_space_in_ip_text}
 
 -- a line says one thing at most
@@ -58,14 +58,11 @@ faultless (Some text) turns fault all faulty =
     let same : None ≡ Some fault = r.1 in
     cc
 
--- lines of which one is at fault are not all turns
-faulty : (before : Option (List ℕ)) (turns : List FeedTurn) → IsSomeAnd before HasFaultyLine
+-- lines that are not all turns are no turns that are read whole
+faulty : (before : Option (List ℕ)) (turns : List FeedTurn) → IsSomeAnd before HasOtherLine
     → IfSome before (λ text. ReadsTurns (pieces text) turns None) → ⊥
-faulty None turns fault all = fault
-faulty (Some text) turns fault all =
-    let r = Reads-one IsTurnLine turn-one all fault.2 in
-    let same : None ≡ Some fault.1 = r.1 in
-    cc
+faulty None turns other all = other
+faulty (Some text) turns other all = other (turns, all)
 
 whole-text : (before after : Option (List ℕ)) (turns : List FeedTurn) → HasTurns AtEnd before after turns → IfSome before (λ text. ReadsTurns (pieces text) turns None)
 whole-text None after turns reading = tt
@@ -119,7 +116,7 @@ module _ (words : List (List ℕ)) (left_old left_new written_old written_new : 
   status-complete Silent turns cut answer e reading all unread unwritten = inr e
 
   status-faulty : (ending : Ending) (turns : List FeedTurn) (cut : List ℕ) (answer : Status) → HasStatus ending (counts_of read_old read_new write_old write_new) cut answer
-      → HasTurns ending left_old left_new turns → IsSomeAnd left_old HasFaultyLine → (Rose read_old read_new → ⊥)
+      → HasTurns ending left_old left_new turns → IsSomeAnd left_old HasOtherLine → (Rose read_old read_new → ⊥)
       → (answer ≡ status.Config) ⊎ (answer ≡ status.NoMemory)
   status-faulty AtEnd turns cut answer e reading fault unread = absurd (faulty left_old turns fault (whole-text left_old left_new turns reading))
   status-faulty (AtBadLine line) turns cut answer e reading fault unread = inl e
@@ -129,51 +126,68 @@ module _ (words : List (List ℕ)) (left_old left_new written_old written_new : 
 
   pub run-usage : (answer : Status) → RunsSo answer → answer ≡ status.Usage → (command : Command) → IsTrialCommand words command → ⊥
   run-usage answer (inl (command, is, run)) usage other says = status-usage run.ending run.cut answer run.answered usage
-  run-usage answer (inr (inl (none, untouched, refuses))) usage other says = none other says
-  run-usage answer (inr (inr (no_memory, left, written))) usage other says = cc
+  run-usage answer (inr (inl (none, untouched, kept, refuses))) usage other says = none other says
+  run-usage answer (inr (inr (no_memory, left, written, kept, given))) usage other says = cc
 
   pub run-no_command : (answer : Status) → RunsSo answer → ((command : Command) → IsTrialCommand words command → ⊥) → (answer ≡ status.Usage) ⊎ (answer ≡ status.NoMemory)
   run-no_command answer (inl (command, is, run)) none = absurd (none command is)
-  run-no_command answer (inr (inl (none, untouched, refuses))) no_command = inl refuses.answered
-  run-no_command answer (inr (inr (no_memory, left, written))) no_command = inr no_memory
+  run-no_command answer (inr (inl (none, untouched, kept, refuses))) no_command = inl refuses.answered
+  run-no_command answer (inr (inr (no_memory, left, written, kept, given))) no_command = inr no_memory
 
   pub run-read_fault : (answer : Status) → RunsSo answer → answer ≡ status.ReadFault → Rose read_old read_new
   run-read_fault answer (inl (command, is, run)) fault = status-read run.ending run.cut answer run.answered fault
-  run-read_fault answer (inr (inl (none, untouched, refuses))) fault = absurd (let e = refuses.answered in cc)
-  run-read_fault answer (inr (inr (no_memory, left, written))) fault = absurd (cc)
+  run-read_fault answer (inr (inl (none, untouched, kept, refuses))) fault = absurd (let e = refuses.answered in cc)
+  run-read_fault answer (inr (inr (no_memory, left, written, kept, given))) fault = absurd (cc)
 
   pub run-sink_fault : (answer : Status) → RunsSo answer → answer ≡ status.SinkFault → Rose write_old write_new
   run-sink_fault answer (inl (command, is, run)) fault = status-sink run.ending run.cut answer run.answered fault
-  run-sink_fault answer (inr (inl (none, untouched, refuses))) fault = absurd (let e = refuses.answered in cc)
-  run-sink_fault answer (inr (inr (no_memory, left, written))) fault = absurd (cc)
+  run-sink_fault answer (inr (inl (none, untouched, kept, refuses))) fault = absurd (let e = refuses.answered in cc)
+  run-sink_fault answer (inr (inr (no_memory, left, written, kept, given))) fault = absurd (cc)
 
   pub run-config : (answer : Status) → RunsSo answer → answer ≡ status.Config → IsSomeAnd left_old HasOnlyTurns → ⊥
   run-config answer (inl (command, is, run)) fault all = status-config run.ending run.turns run.cut answer run.answered run.reading all fault
-  run-config answer (inr (inl (none, untouched, refuses))) fault all = let e = refuses.answered in cc
-  run-config answer (inr (inr (no_memory, left, written))) fault all = cc
+  run-config answer (inr (inl (none, untouched, kept, refuses))) fault all = let e = refuses.answered in cc
+  run-config answer (inr (inr (no_memory, left, written, kept, given))) fault all = cc
 
   pub run-complete : (answer : Status) → RunsSo answer → (command : Command) → IsTrialCommand words command → IsSomeAnd left_old HasOnlyTurns
       → (Rose read_old read_new → ⊥) → (Rose write_old write_new → ⊥)
       → (answer ≡ status.Done) ⊎ (answer ≡ status.NoMemory)
   run-complete answer (inl (other, is, run)) command says all unread unwritten = status-complete run.ending run.turns run.cut answer run.answered run.reading all unread unwritten
-  run-complete answer (inr (inl (none, untouched, refuses))) command says all unread unwritten = absurd (none command says)
-  run-complete answer (inr (inr (no_memory, left, written))) command says all unread unwritten = inr no_memory
+  run-complete answer (inr (inl (none, untouched, kept, refuses))) command says all unread unwritten = absurd (none command says)
+  run-complete answer (inr (inr (no_memory, left, written, kept, given))) command says all unread unwritten = inr no_memory
 
-  pub run-faulty : (answer : Status) → RunsSo answer → (command : Command) → IsTrialCommand words command → IsSomeAnd left_old HasFaultyLine
+  pub run-faulty : (answer : Status) → RunsSo answer → (command : Command) → IsTrialCommand words command → IsSomeAnd left_old HasOtherLine
       → (Rose read_old read_new → ⊥)
       → (answer ≡ status.Config) ⊎ (answer ≡ status.NoMemory)
   run-faulty answer (inl (other, is, run)) command says fault unread = status-faulty run.ending run.turns run.cut answer run.answered run.reading fault unread
-  run-faulty answer (inr (inl (none, untouched, refuses))) command says fault unread = absurd (none command says)
-  run-faulty answer (inr (inr (no_memory, left, written))) command says fault unread = inr no_memory
+  run-faulty answer (inr (inl (none, untouched, kept, refuses))) command says fault unread = absurd (none command says)
+  run-faulty answer (inr (inr (no_memory, left, written, kept, given))) command says fault unread = inr no_memory
+
+  status-unfailed : (ending : Ending) (cut : List ℕ) (answer : Status) → HasStatus ending (counts_of read_old read_new write_old write_new) cut answer
+      → (answer ≡ status.ReadFault → ⊥) → (answer ≡ status.NoMemory → ⊥)
+      → (ending ≡ AtReadFault → ⊥) × (ending ≡ Silent → ⊥)
+  status-unfailed AtEnd cut answer e read memory = (λ is. cc, λ is. cc)
+  status-unfailed (AtBadLine line) cut answer e read memory = (λ is. cc, λ is. cc)
+  status-unfailed (AtLongInput line) cut answer e read memory = (λ is. cc, λ is. cc)
+  status-unfailed AtReadFault cut answer failed read memory = absurd (read failed.0)
+  status-unfailed Silent cut answer e read memory = absurd (memory e)
+
+  pub run-unfailed : (answer : Status) → RunsSo answer → (answer ≡ status.ReadFault → ⊥) → (answer ≡ status.NoMemory → ⊥) → read_new ≡ read_old
+  run-unfailed answer (inl (command, is, run)) read memory =
+      let neither = status-unfailed run.ending run.cut answer run.answered read memory in
+      run.unfailed neither.0 neither.1
+  run-unfailed answer (inr (inl (none, untouched, kept, refuses))) read memory = kept
+  run-unfailed answer (inr (inr (no_memory, left, written, kept, given))) read memory = kept
 
 -- all that a run's answer says
 pub record SaysCause (words : List (List ℕ)) (left_old : Option (List ℕ)) (read_old read_new write_old write_new : ℕ) (answer : Status) : Type 0 where
   pub usage : answer ≡ status.Usage → (command : Command) → IsTrialCommand words command → ⊥
   pub no_command : ((command : Command) → IsTrialCommand words command → ⊥) → (answer ≡ status.Usage) ⊎ (answer ≡ status.NoMemory)
   pub config : answer ≡ status.Config → IsSomeAnd left_old HasOnlyTurns → ⊥
-  pub faulty : (command : Command) → IsTrialCommand words command → IsSomeAnd left_old HasFaultyLine → (Rose read_old read_new → ⊥)
+  pub faulty : (command : Command) → IsTrialCommand words command → IsSomeAnd left_old HasOtherLine → (Rose read_old read_new → ⊥)
       → (answer ≡ status.Config) ⊎ (answer ≡ status.NoMemory)
   pub read_fault : answer ≡ status.ReadFault → Rose read_old read_new
+  pub unfailed : (answer ≡ status.ReadFault → ⊥) → (answer ≡ status.NoMemory → ⊥) → read_new ≡ read_old
   pub sink_fault : answer ≡ status.SinkFault → Rose write_old write_new
   pub complete : (command : Command) → IsTrialCommand words command → IsSomeAnd left_old HasOnlyTurns → (Rose read_old read_new → ⊥) → (Rose write_old write_new → ⊥)
       → (answer ≡ status.Done) ⊎ (answer ≡ status.NoMemory)
@@ -187,6 +201,7 @@ causes words left_old left_new written_old written_new read_old read_new write_o
   config = run-config words left_old left_new written_old written_new read_old read_new write_old write_new answer runs;
   faulty = run-faulty words left_old left_new written_old written_new read_old read_new write_old write_new answer runs;
   read_fault = run-read_fault words left_old left_new written_old written_new read_old read_new write_old write_new answer runs;
+  unfailed = run-unfailed words left_old left_new written_old written_new read_old read_new write_old write_new answer runs;
   sink_fault = run-sink_fault words left_old left_new written_old written_new read_old read_new write_old write_new answer runs;
   complete = run-complete words left_old left_new written_old written_new read_old read_new write_old write_new answer runs;
 }

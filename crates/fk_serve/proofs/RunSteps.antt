@@ -212,40 +212,41 @@ module _ (command : Command) (start : Outside) (left left2 written : Option (Lis
   most-taken : (piece : List ℕ) → Takes piece (rest old.reader left) (rest new.reader left2) → new.reader.offset ≡ old.reader.offset + length piece → TakesAtMost (input_limit + 1) start.left left2
   most-taken piece taken offset = takes-bounded piece start.left (rest old.reader left) left2 old.reader new.reader h.turns h.read taken offset bounded
 
-  pub stopped-no_memory : TakesLine old.reader new.reader (rest old.reader left) (rest new.reader left2) → Stopped command start (outside left2 read_faults2 written write_faults) new stop.NoMemory
-  stopped-no_memory takes =
+  pub stopped-no_memory : TakesLine old.reader new.reader (rest old.reader left) (rest new.reader left2) → read_faults2 ≡ read_faults → Stopped command start (outside left2 read_faults2 written write_faults) new stop.NoMemory
+  stopped-no_memory takes same =
       stopped-by command start left left2 written read_faults read_faults2 write_faults old new stop.NoMemory h turns broken
-      (silent-so_far start.left (rest old.reader left) left2 old.reader h.turns h.read) tt
+      (silent-so_far start.left (rest old.reader left) left2 old.reader h.turns h.read) (same ∙ h.same_count)
       (most-taken takes.piece takes.taken takes.offset)
       (λ changes owed. tt)
 
   module _ (trial : new.trial ≡ old.trial) (page : new.page ≡ old.page) where
-    pub stopped-end : FindsEnd old.reader new.reader (rest old.reader left) (rest new.reader left2) → Stopped command start (outside left2 read_faults2 written write_faults) new stop.End
-    stopped-end finds =
+    pub stopped-end : FindsEnd old.reader new.reader (rest old.reader left) (rest new.reader left2) → read_faults2 ≡ read_faults → Stopped command start (outside left2 read_faults2 written write_faults) new stop.End
+    stopped-end finds same =
         stopped-by command start left left2 written read_faults read_faults2 write_faults old new stop.End h turns broken
-        (turns-end start.left (rest old.reader left) left2 old.reader new.reader h.turns h.read finds) tt
+        (turns-end start.left (rest old.reader left) left2 old.reader new.reader h.turns h.read finds) (same ∙ h.same_count)
         (most-taken [] finds.nothing.2 (omega (arith, finds.offset)))
         (can-end command start (outside left read_faults written write_faults) old new h trial page turns)
 
     pub stopped-bad_line : TakesLine old.reader new.reader (rest old.reader left) (rest new.reader left2) → ((turn : FeedTurn) → IsTurnLine new.reader.line turn → ⊥)
+        → read_faults2 ≡ read_faults
         → Stopped command start (outside left2 read_faults2 written write_faults) new stop.BadLine
-    stopped-bad_line takes none =
+    stopped-bad_line takes none same =
         stopped-by command start left left2 written read_faults read_faults2 write_faults old new stop.BadLine h turns broken
-        (Reads-bad_line IsTurnLine start.left (rest old.reader left) (rest new.reader left2) old.reader new.reader h.turns h.read takes none) tt
+        (Reads-bad_line IsTurnLine start.left (rest old.reader left) (rest new.reader left2) old.reader new.reader h.turns h.read takes none) (same ∙ h.same_count)
         (most-taken takes.piece takes.taken takes.offset)
         (can-end command start (outside left read_faults written write_faults) old new h trial page turns)
 
-    pub stopped-long_line : TakesLongLine old.reader new.reader (rest old.reader left) (rest new.reader left2) → Stopped command start (outside left2 read_faults2 written write_faults) new stop.BadLine
-    stopped-long_line takes =
+    pub stopped-long_line : TakesLongLine old.reader new.reader (rest old.reader left) (rest new.reader left2) → read_faults2 ≡ read_faults → Stopped command start (outside left2 read_faults2 written write_faults) new stop.BadLine
+    stopped-long_line takes same =
         stopped-by command start left left2 written read_faults read_faults2 write_faults old new stop.BadLine h turns broken
-        (Reads-long_line IsTurnLine start.left (rest old.reader left) (rest new.reader left2) old.reader new.reader h.turns h.read takes) tt
+        (Reads-long_line IsTurnLine start.left (rest old.reader left) (rest new.reader left2) old.reader new.reader h.turns h.read takes) (same ∙ h.same_count)
         (most-taken takes.front takes.taken takes.offset)
         (can-end command start (outside left read_faults written write_faults) old new h trial page turns)
 
-    pub stopped-limit : PassesLimit old.reader new.reader (rest old.reader left) (rest new.reader left2) → Stopped command start (outside left2 read_faults2 written write_faults) new stop.LongInput
-    stopped-limit passes =
+    pub stopped-limit : PassesLimit old.reader new.reader (rest old.reader left) (rest new.reader left2) → read_faults2 ≡ read_faults → Stopped command start (outside left2 read_faults2 written write_faults) new stop.LongInput
+    stopped-limit passes same =
         stopped-by command start left left2 written read_faults read_faults2 write_faults old new stop.LongInput h turns broken
-        (Reads-limit IsTurnLine start.left (rest old.reader left) (rest new.reader left2) old.reader new.reader h.turns h.read passes) tt
+        (Reads-limit IsTurnLine start.left (rest old.reader left) (rest new.reader left2) old.reader new.reader h.turns h.read passes) (same ∙ h.same_count)
         (most-taken passes.front passes.taken passes.offset)
         (can-end command start (outside left read_faults written write_faults) old new h trial page turns)
 
@@ -262,17 +263,18 @@ pub stopped-line : (command : Command) (start : Outside) (left left2 written : O
     → Going command start (outside left read_faults written write_faults) old
     → new.turns ≡ old.turns → new.broken ≡ old.broken
     → IsBounded new.reader
+    → read_faults2 ≡ read_faults
     → TakesLine old.reader new.reader (rest old.reader left) (rest new.reader left2)
     → (how : Stop)
     → ServesLine command old.trial new.trial old.page new.page new.reader.line (Some how)
     → Stopped command start (outside left2 read_faults2 written write_faults) new how
-stopped-line command start left left2 written read_faults read_faults2 write_faults old new h turns broken bounded takes stop.BadLine serves =
-    stopped-bad_line command start left left2 written read_faults read_faults2 write_faults old new h turns broken bounded serves.1 serves.2 takes serves.0
-stopped-line command start left left2 written read_faults read_faults2 write_faults old new h turns broken bounded takes stop.NoMemory serves =
-    stopped-no_memory command start left left2 written read_faults read_faults2 write_faults old new h turns broken bounded takes
-stopped-line command start left left2 written read_faults read_faults2 write_faults old new h turns broken bounded takes stop.End serves = absurd serves
-stopped-line command start left left2 written read_faults read_faults2 write_faults old new h turns broken bounded takes stop.LongInput serves = absurd serves
-stopped-line command start left left2 written read_faults read_faults2 write_faults old new h turns broken bounded takes stop.ReadFault serves = absurd serves
+stopped-line command start left left2 written read_faults read_faults2 write_faults old new h turns broken bounded same takes stop.BadLine serves =
+    stopped-bad_line command start left left2 written read_faults read_faults2 write_faults old new h turns broken bounded serves.1 serves.2 takes serves.0 same
+stopped-line command start left left2 written read_faults read_faults2 write_faults old new h turns broken bounded same takes stop.NoMemory serves =
+    stopped-no_memory command start left left2 written read_faults read_faults2 write_faults old new h turns broken bounded takes same
+stopped-line command start left left2 written read_faults read_faults2 write_faults old new h turns broken bounded same takes stop.End serves = absurd serves
+stopped-line command start left left2 written read_faults read_faults2 write_faults old new h turns broken bounded same takes stop.LongInput serves = absurd serves
+stopped-line command start left left2 written read_faults read_faults2 write_faults old new h turns broken bounded same takes stop.ReadFault serves = absurd serves
 
 -- the log of a whole run, by its lines
 log-of : (command : Command) (turns : List FeedTurn) (trace : List Item) (changes : List Change) (lines : List Line) (ending : Ending)
@@ -301,6 +303,7 @@ ended-silent command start left written read_faults write_faults session how h =
   shown = h.sent.shown ∙ (ap text_of_lines (sym (append-nil (ReadyLine 0 ∷ h.lines))) ∙ sym (log-of command h.turns h.trace h.changes h.lines Silent h.whole));
   whole = λ _ never. absurd (never refl);
   answered = refl;
+  unfailed = λ _ never. absurd (never refl);
 }
 
 -- the run ended before it began
@@ -324,6 +327,7 @@ ended-early command left before after read_faults read_faults2 write_faults writ
       shown = sym (log-of command [] w.trace w.changes [] Silent w.whole);
       whole = λ _ never. absurd (never refl);
       answered = refl;
+      unfailed = λ _ never. absurd (never refl);
     }
   where
     nothing-read : (o : Option (List ℕ)) → HasTurns Silent o o []
@@ -378,10 +382,11 @@ module _ (command : Command) (start : Outside) (left written written2 : Option (
       → line_text line ≡ line_text other
       → ending_lines ending (summary_of h.lines (length h.turns) (length (live h.changes))) ≡ other ∷ []
       → HasTurns ending start.left left h.turns
+      → ((ending ≡ AtReadFault → ⊥) → read_faults ≡ start.read_faults)
       → (answer : Status)
       → HasStatus ending (counts_of start.read_faults read_faults start.write_faults write_faults2) sent.cut answer
       → RunsTrial command start.left left start.written written2 (counts_of start.read_faults read_faults start.write_faults write_faults2) answer
-  ended-as how other line ending h sent adds can same ends reading answer has = record {
+  ended-as how other line ending h sent adds can same ends reading unfailed answer has = record {
     turns = h.turns;
     trace = h.trace;
     changes = h.changes;
@@ -399,6 +404,7 @@ module _ (command : Command) (start : Outside) (left written written2 : Option (
         ∙ sym (log-of command h.turns h.trace h.changes h.lines ending h.whole));
     whole = λ never _. whole-out (text_of_lines (ReadyLine 0 ∷ h.lines) ++ page.text) broken start.written written2 start.write_faults write_faults2 sent never;
     answered = has;
+    unfailed = λ read _. unfailed read;
   }
 
   -- the end was said
@@ -412,17 +418,17 @@ module _ (command : Command) (start : Outside) (left written written2 : Option (
       (SummaryLine session.turns session.page.tally.opens session.page.tally.closes session.page.tally.settled session.page.tally.refused (length session.trial.machine.kept)) AtEnd
       h sent says h.can_end
       (summary-same h.lines session.turns (length h.turns) (length session.trial.machine.kept) (length (live h.changes)) session.page.tally h.can_end.number h.can_end.owed h.can_end.tally)
-      refl h.reading (status_of stop.End broken)
+      refl h.reading (λ _. h.cause) (status_of stop.End broken)
       (status-end (text_of_lines (ReadyLine 0 ∷ h.lines) ++ page.text) broken start.written written2 start.write_faults write_faults2 start.read_faults read_faults sent)
   ended-said stop.BadLine h sent says =
       ended-as stop.BadLine (BadLineLine (length h.turns + 1)) (BadLineLine (session.turns + 1)) (AtBadLine (length h.turns + 1))
-      h sent says h.can_end (ap (λ (n : ℕ). line_text (BadLineLine (n + 1))) h.can_end.number) refl h.reading status.Config refl
+      h sent says h.can_end (ap (λ (n : ℕ). line_text (BadLineLine (n + 1))) h.can_end.number) refl h.reading (λ _. h.cause) status.Config refl
   ended-said stop.LongInput h sent says =
       ended-as stop.LongInput (LongInputLine (length h.turns + 1)) (LongInputLine (session.turns + 1)) (AtLongInput (length h.turns + 1))
-      h sent says h.can_end (ap (λ (n : ℕ). line_text (LongInputLine (n + 1))) h.can_end.number) refl h.reading status.Config refl
+      h sent says h.can_end (ap (λ (n : ℕ). line_text (LongInputLine (n + 1))) h.can_end.number) refl h.reading (λ _. h.cause) status.Config refl
   ended-said stop.ReadFault h sent says =
       ended-as stop.ReadFault InputFailedLine InputFailedLine AtReadFault
-      h sent says h.can_end refl refl h.reading status.ReadFault (refl, h.cause)
+      h sent says h.can_end refl refl h.reading (λ read. absurd (read refl)) status.ReadFault (refl, h.cause)
   ended-said stop.NoMemory h sent says = absurd says
 
 -- the words were refused

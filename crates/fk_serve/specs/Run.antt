@@ -1,5 +1,5 @@
 -- What a run of the trial did, and what it answers.
-use Rattle.std.specs.Prelude.{◌≡◌, ◌⊎◌, ℕ, ◌+◌, ◌≤◌, false, List, [], ◌++◌, length, map, Option, Some, None, IfSome, IsSomeAnd}
+use Rattle.std.specs.Prelude.{◌≡◌, ◌⊎◌, ℕ, ◌≤◌, false, List, [], ◌++◌, length, map, Option, Some, None, IfSome}
 use Rattle.std.specs.List.{filter, range_with_len, AllByRecursion}
 use Rattle.fk_base.specs.declared.status.Status.{Status}
 use Rattle.fk_base.specs.declared.status.Status.TheVariants as status
@@ -35,9 +35,9 @@ ReadsTurns lines turns fault = Reads IsTurnLine 0 1 lines turns fault
 abbrev pub HasOnlyTurns : List ℕ → Type 0
 HasOnlyTurns text = (turns : List FeedTurn) × ReadsTurns (pieces text) turns None
 
--- a line of the text is none of the grammar, or the limit is passed in it
-abbrev pub HasFaultyLine : List ℕ → Type 0
-HasFaultyLine text = (turns : List FeedTurn) × (fault : Fault) × ReadsTurns (pieces text) turns (Some fault)
+-- not each line of the text is a turn: one is none of the grammar, or the limit is passed in it
+abbrev pub HasOtherLine : List ℕ → Type 0
+HasOtherLine text = HasOnlyTurns text → ⊥
 
 -- the turns of a run that ended so, by what the input had and has left, where it tells
 abbrev pub HasTurns : Ending → Option (List ℕ) → Option (List ℕ) → List FeedTurn → Type 0
@@ -55,16 +55,17 @@ HasTurns Silent before after turns = IfSome before (λ text. (lines : List (List
 abbrev pub TakesAtMost : ℕ → Option (List ℕ) → Option (List ℕ) → Type 0
 TakesAtMost most before after = (taken : List ℕ) × (length taken ≤ most) × Takes taken before after
 
--- What is known of the counts of faults of a run's input and output: that they rose in it, and that the output's is as
--- before.
+-- What is known of the counts of faults of a run's input and output: that they rose in it, and that they are as before.
 pub record Counts : Type 1 where
   pub input_rose : Type 0
+  pub input_same : Type 0
   pub output_rose : Type 0
   pub output_same : Type 0
 
 abbrev pub counts_of : ℕ → ℕ → ℕ → ℕ → Counts
 counts_of input_old input_new output_old output_new = record {
   input_rose = Rose input_old input_new;
+  input_same = input_new ≡ input_old;
   output_rose = Rose output_old output_new;
   output_same = output_new ≡ output_old;
 }
@@ -97,6 +98,8 @@ pub record RunsTrial (command : Command) (left_old left_new written_old written_
   pub shown : printed ++ cut ≡ log_text false (rules_of command) [] turns trace changes ending
   pub whole : (counts.output_rose → ⊥) → (ending ≡ Silent → ⊥) → cut ≡ []
   pub answered : HasStatus ending counts cut answer
+  -- no fault of the input is hidden
+  pub unfailed : (ending ≡ AtReadFault → ⊥) → (ending ≡ Silent → ⊥) → counts.input_same
 
 -- the words are no command: the one line that says so was written, or a front of it where the output failed
 pub record RefusesWords (written_old written_new : Option (List ℕ)) (output_rose : Type 0) (answer : Status) : Type 0 where
@@ -112,5 +115,5 @@ pub record RefusesWords (written_old written_new : Option (List ℕ)) (output_ro
 abbrev pub Runs : List (List ℕ) → Option (List ℕ) → Option (List ℕ) → Option (List ℕ) → Option (List ℕ) → Counts → Status → Type 0
 Runs words left_old left_new written_old written_new counts answer =
     ((command : Command) × IsTrialCommand words command × RunsTrial command left_old left_new written_old written_new counts answer)
-    ⊎ ((((command : Command) → IsTrialCommand words command → ⊥) × (left_new ≡ left_old) × RefusesWords written_old written_new counts.output_rose answer)
-    ⊎ ((answer ≡ status.NoMemory) × (left_new ≡ left_old) × (written_new ≡ written_old)))
+    ⊎ ((((command : Command) → IsTrialCommand words command → ⊥) × (left_new ≡ left_old) × counts.input_same × RefusesWords written_old written_new counts.output_rose answer)
+    ⊎ ((answer ≡ status.NoMemory) × (left_new ≡ left_old) × (written_new ≡ written_old) × counts.input_same × counts.output_same))

@@ -112,10 +112,10 @@ ending_of stop.LongInput line = AtLongInput line
 ending_of stop.ReadFault line = AtReadFault
 ending_of stop.NoMemory line = Silent
 
--- the input's count of faults rose where it failed
+-- the input's count of faults rose where it failed, and is as before otherwise
 abbrev pub HasRisen : Stop → ℕ → ℕ → Type 0
 HasRisen stop.ReadFault old new = Rose old new
-HasRisen _ old new = Unit {0}
+HasRisen _ old new = new ≡ old
 
 -- nothing can be said where memory ran out
 abbrev pub CanSay : Stop → Type 0 → Type 0

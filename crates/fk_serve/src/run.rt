@@ -3,7 +3,7 @@ ghost use Rattle.fk_host.specs.Count.{Rose};
 ghost use Rattle.fk_input.specs.Lines.{input_limit};
 ghost use Rattle.fk_serve.specs.declared.command.Command.{Command};
 ghost use Rattle.fk_serve.specs.Command.{IsTrialCommand};
-ghost use Rattle.fk_serve.specs.Run.{Runs, RunsTrial, RefusesWords, HasOnlyTurns, HasFaultyLine, TakesAtMost, counts_of};
+ghost use Rattle.fk_serve.specs.Run.{Runs, RunsTrial, RefusesWords, HasOnlyTurns, HasOtherLine, TakesAtMost, counts_of};
 ghost use Rattle.fk_serve.specs.Trial.{HasKept};
 ghost use Rattle.fk_serve.specs.RunStates.{Outside, outside, HasSent, Going, GoesOn, Stopped, ServesLine, SaysEnd, status_of};
 
@@ -28,10 +28,12 @@ pub fn fwknopd_run<I: Source, K: Sink>(
     ensures usage { result ≡ Status.Usage → (command : Command) → IsTrialCommand words.now command → ⊥ }
     ensures no_command { ((command : Command) → IsTrialCommand words.now command → ⊥) → (result ≡ Status.Usage) ⊎ (result ≡ Status.NoMemory) }
     ensures config { result ≡ Status.Config → IsSomeAnd (I.left input.old) HasOnlyTurns → ⊥ }
-    ensures faulty { (command : Command) → IsTrialCommand words.now command → IsSomeAnd (I.left input.old) HasFaultyLine
+    ensures faulty { (command : Command) → IsTrialCommand words.now command → IsSomeAnd (I.left input.old) HasOtherLine
         → ¬ Rose (I.faults input.old) (I.faults input.new)
         → (result ≡ Status.Config) ⊎ (result ≡ Status.NoMemory) }
     ensures read_fault { result ≡ Status.ReadFault → Rose (I.faults input.old) (I.faults input.new) }
+    // No fault of the input is hidden.
+    ensures unfailed { (result ≡ Status.ReadFault → ⊥) → (result ≡ Status.NoMemory → ⊥) → I.faults input.new ≡ I.faults input.old }
     ensures sink_fault { result ≡ Status.SinkFault → Rose (K.faults out.old) (K.faults out.new) }
     // Where each line is a turn, and neither the input nor the output failed, the run is complete.
     ensures complete { (command : Command) → IsTrialCommand words.now command → IsSomeAnd (I.left input.old) HasOnlyTurns

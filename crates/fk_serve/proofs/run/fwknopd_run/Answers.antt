@@ -13,9 +13,9 @@ returns-in-Ok-None g c =
     let reads : ℕ = g.I.Source.faults c.args.input.now in
     let first : ℕ = g.K.Sink.faults c.args.out.now in
     let second : ℕ = g.K.Sink.faults c.refuse_words.new.out in
-    let runs : Runs c.args.words.now left left before after (counts_of reads reads first second) c.refuse_words.result = inr (inl (none, refl, c.refuse_words.ensures)) in
+    let runs : Runs c.args.words.now left left before after (counts_of reads reads first second) c.refuse_words.result = inr (inl (none, refl, refl, c.refuse_words.ensures)) in
     let k = causes c.args.words.now left left before after reads reads first second c.refuse_words.result runs in
-    record { runs = runs; usage = k.usage; no_command = k.no_command; config = k.config; faulty = k.faulty; read_fault = k.read_fault; sink_fault = k.sink_fault; complete = k.complete; bound = takes-nothing _ left }
+    record { runs = runs; usage = k.usage; no_command = k.no_command; config = k.config; faulty = k.faulty; read_fault = k.read_fault; unfailed = k.unfailed; sink_fault = k.sink_fault; complete = k.complete; bound = takes-nothing _ left }
 
 pub returns-in-Ok-Some : goal.returns-in-Ok-Some
 returns-in-Ok-Some g c =
@@ -30,4 +30,4 @@ returns-in-Ok-Some g c =
     let second : ℕ = g.K.Sink.faults c.run_trial.new.out in
     let runs : Runs c.args.words.now left left2 before after (counts_of reads reads2 first second) c.run_trial.result = inl (c.in-Ok-Some.command, some, c.run_trial.ensures.runs) in
     let k = causes c.args.words.now left left2 before after reads reads2 first second c.run_trial.result runs in
-    record { runs = runs; usage = k.usage; no_command = k.no_command; config = k.config; faulty = k.faulty; read_fault = k.read_fault; sink_fault = k.sink_fault; complete = k.complete; bound = c.run_trial.ensures.bound }
+    record { runs = runs; usage = k.usage; no_command = k.no_command; config = k.config; faulty = k.faulty; read_fault = k.read_fault; unfailed = k.unfailed; sink_fault = k.sink_fault; complete = k.complete; bound = c.run_trial.ensures.bound }

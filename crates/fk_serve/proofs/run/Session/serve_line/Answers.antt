@@ -6,15 +6,15 @@ use Rattle.fk_serve.proofs.run.Session.serve_line.Goals as goal
 
 pub returns-in-End-clause-goes : goal.returns-in-End-clause-goes
 returns-in-End-clause-goes g c = λ start h.
-    stopped-end c.args.command.now start (g.I.Source.left c.args.input.now) (g.I.Source.left c.next.new.input) (g.K.Sink.written c.args.out.now) (g.I.Source.faults c.args.input.now) (g.I.Source.faults c.next.new.input) (g.K.Sink.faults c.args.out.now) c.args.self.now _ h refl refl c.next.ensures.bound refl refl c.in-End.ensures.says
+    stopped-end c.args.command.now start (g.I.Source.left c.args.input.now) (g.I.Source.left c.next.new.input) (g.K.Sink.written c.args.out.now) (g.I.Source.faults c.args.input.now) (g.I.Source.faults c.next.new.input) (g.K.Sink.faults c.args.out.now) c.args.self.now _ h refl refl c.next.ensures.bound refl refl c.in-End.ensures.says c.in-End.ensures.cause
 
 pub returns-in-Bad-clause-goes : goal.returns-in-Bad-clause-goes
 returns-in-Bad-clause-goes g c = λ start h.
-    stopped-long_line c.args.command.now start (g.I.Source.left c.args.input.now) (g.I.Source.left c.next.new.input) (g.K.Sink.written c.args.out.now) (g.I.Source.faults c.args.input.now) (g.I.Source.faults c.next.new.input) (g.K.Sink.faults c.args.out.now) c.args.self.now _ h refl refl c.next.ensures.bound refl refl c.in-Bad.ensures.says
+    stopped-long_line c.args.command.now start (g.I.Source.left c.args.input.now) (g.I.Source.left c.next.new.input) (g.K.Sink.written c.args.out.now) (g.I.Source.faults c.args.input.now) (g.I.Source.faults c.next.new.input) (g.K.Sink.faults c.args.out.now) c.args.self.now _ h refl refl c.next.ensures.bound refl refl c.in-Bad.ensures.says c.in-Bad.ensures.cause
 
 pub returns-in-TooLong-clause-goes : goal.returns-in-TooLong-clause-goes
 returns-in-TooLong-clause-goes g c = λ start h.
-    stopped-limit c.args.command.now start (g.I.Source.left c.args.input.now) (g.I.Source.left c.next.new.input) (g.K.Sink.written c.args.out.now) (g.I.Source.faults c.args.input.now) (g.I.Source.faults c.next.new.input) (g.K.Sink.faults c.args.out.now) c.args.self.now _ h refl refl c.next.ensures.bound refl refl c.in-TooLong.ensures.says
+    stopped-limit c.args.command.now start (g.I.Source.left c.args.input.now) (g.I.Source.left c.next.new.input) (g.K.Sink.written c.args.out.now) (g.I.Source.faults c.args.input.now) (g.I.Source.faults c.next.new.input) (g.K.Sink.faults c.args.out.now) c.args.self.now _ h refl refl c.next.ensures.bound refl refl c.in-TooLong.ensures.says c.in-TooLong.ensures.cause
 
 pub returns-in-Failed-clause-goes : goal.returns-in-Failed-clause-goes
 returns-in-Failed-clause-goes g c = λ start h.
@@ -24,7 +24,7 @@ pub returns-in-Some-clause-goes : goal.returns-in-Some-clause-goes
 returns-in-Some-clause-goes g c = λ start h.
     stopped-line c.args.command.now start (g.I.Source.left c.args.input.now) (g.I.Source.left c.next.new.input) (g.K.Sink.written c.args.out.now) (g.I.Source.faults c.args.input.now) (g.I.Source.faults c.next.new.input) (g.K.Sink.faults c.args.out.now) c.args.self.now
     (record c.args.self.now { trial = c.serve_turn.new.trial; reader = c.next.new.self; page = c.serve_turn.new.page })
-    h refl refl c.next.ensures.bound c.in-Line.ensures.says c.in-Some.stop
+    h refl refl c.next.ensures.bound c.in-Line.ensures.cause c.in-Line.ensures.says c.in-Some.stop
     (subst (λ (line : List ℕ). ServesLine c.args.command.now c.args.self.now.trial c.serve_turn.new.trial c.args.self.now.page c.serve_turn.new.page line (Some c.in-Some.stop)) c.line.ensures c.in-Some.ensures)
 
 pub returns-in_default-clause-goes : goal.returns-in_default-clause-goes
