@@ -100,7 +100,7 @@ pub record EndedCleanly (trace : List Item) (id : ℕ) : Type 0 where
   pub clean : IsTrue (is_clean (past_after [] before) number id)
 
 -- The records of a run over the ledger are numbered on from it, the open of each is attempted at most once (exactly once in a
--- run that is not cut short), and no two records have one digest, those that the ledger had before among them.
+-- run that is not cut short), and where no two records of the ledger have one digest, no two have one with the run's among them.
 pub record OpensOnce (may_cut : Bool) (ledger : List Change) (trace : List Item) (changes : List Change) : Type 0 where
   pub unattempted : List ℕ
   pub attempted : opens_attempted trace ++ unattempted ≡ map (λ item. item.id) (opens changes)
