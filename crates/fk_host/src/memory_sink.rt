@@ -1,14 +1,13 @@
-ghost use Rattle.std.specs.Prelude.{◌≡◌, ◌⊎◌, ◌<◌, ◌≤◌, [], length, take, true, false, Some, IfOk, IsErr, OnErr, OnOk};
-ghost use Rattle.fk_host.specs.Count.{HasCause};
-ghost use Rattle.fk_host.specs.Stream.{Gives};
-ghost use Rattle.fk_host.specs.Stock.{fitting_count};
+ghost use Rattle.std.specs.Prelude.{◌≡◌, ◌<◌, ◌≤◌, ◌++◌, [], length, take, false, Some, IfOk, OnErr};
+ghost use Rattle.fk_host.specs.Stock.{fitting_count, FailsToTake};
 
 use crate::Sink;
 use fk_base::Failed;
 use std::alloc::Global;
 use std::marker::Model;
 
-/// A sink that keeps what it takes, up to a limit where it has one.
+/// A sink that keeps what it takes, up to a limit where it has one. A write for which it can't grow fails; later ones that
+/// need no more room than it has succeed.
 #[derive(Drop)]
 pub struct MemSink {
     items: Vec<u8>,
@@ -18,17 +17,18 @@ pub struct MemSink {
 }
 
 impl Model for MemSink {
+    ghost use Rattle.std.specs.Prelude.{vec_capacity};
     ghost use Rattle.fk_host.specs.Stock.{Stock};
 
     ghost Value = { Stock };
 
-    ghost view = { λ s. record { written = s.items.items; limit = s.limit; is_short = s.is_short; faults = s.faults } };
+    ghost view = { λ s. record { written = s.items.items; room = vec_capacity s.items; limit = s.limit; is_short = s.is_short; faults = s.faults } };
 }
 
 impl MemSink {
     /// A sink that has taken nothing. Past the limit every write fails.
     pub fn new(alloc: Global, limit: Option<usize>) -> Self
-        ensures { result ≡ record { written = []; limit = limit; is_short = false; faults = 0 } }
+        ensures { result ≡ record { written = []; room = 0; limit = limit; is_short = false; faults = 0 } }
     {
         MemSink {
             items: Vec::new(alloc),
@@ -59,17 +59,11 @@ impl Sink for MemSink {
 
     fn write(&mut self, bytes: &[u8]) -> Result<usize, Failed>
         requires { 0 < length bytes.now }
-        ensures some { IfOk result (λ n. (0 < n) × (n ≤ length bytes.now)) }
-        ensures given { IfOk result (λ n. Gives (take n bytes.now) (Some self.old.written) (Some self.new.written)) }
-        ensures kept { OnErr result (Some self.new.written ≡ Some self.old.written) }
-        ensures cause { HasCause self.old.faults self.new.faults result }
-        // It takes what fits, and at its limit it fails.
-        ensures count { IfOk result (λ n. n ≡ fitting_count self.old (length bytes.now)) }
-        ensures full { fitting_count self.old (length bytes.now) ≡ 0 → IsErr result × (self.new.is_short ≡ self.old.is_short) }
-        // Below its limit it fails only where it couldn't grow, which it then tells.
-        ensures short { OnErr result ((fitting_count self.old (length bytes.now) ≡ 0) ⊎ (self.new.is_short ≡ true)) }
-        ensures grown { OnOk result (self.new.is_short ≡ self.old.is_short) }
-        ensures limit { self.new.limit ≡ self.old.limit }
+        // It takes the bytes that are within its limit.
+        ensures count { IfOk result (λ n. (0 < n) × (n ≡ fitting_count self.old (length bytes.now))) }
+        ensures taken { IfOk result (λ n. self.new ≡ record self.old { written = self.old.written ++ take n bytes.now; room = self.new.room }) }
+        ensures failed { OnErr result (FailsToTake self.old self.new (length bytes.now)) }
+        ensures room { self.old.room ≤ self.new.room }
     {
         let count = match self.limit {
             None => bytes.len(),

@@ -1,4 +1,4 @@
-ghost use Rattle.std.specs.Prelude.{◌≡◌, ◌↔◌, ◌<◌, ◌≤◌, ◌-◌, [], length, take, unwrap_or, Some, IfOk, IsErr, OnErr, IfSome};
+ghost use Rattle.std.specs.Prelude.{◌≡◌, ◌↔◌, ◌<◌, ◌≤◌, ◌-◌, [], length, take, drop, unwrap_or, Some, IfOk, IsErr, OnErr, IfSome, MatchResult};
 ghost use Rattle.fk_host.specs.Count.{HasCause};
 ghost use Rattle.fk_host.specs.Stream.{Takes};
 ghost use Rattle.fk_host.specs.Supply.{given_count};
@@ -73,8 +73,9 @@ impl Source for MemSource {
         // It fails exactly where it was told to.
         ensures told { IsErr result ↔ (self.old.fails_in ≡ 1) }
         ensures count { IfOk result (λ n. n ≡ given_count self.old (length buf.old)) }
-        ensures next { self.new.fails_in ≡ self.old.fails_in - 1 }
-        ensures most { self.new.most ≡ self.old.most }
+        // Behind the bytes that it gave the buffer is as before, and the whole of it where it failed.
+        ensures behind { MatchResult result (λ n. drop n buf.new ≡ drop n buf.old) (λ _. buf.new ≡ buf.old) }
+        ensures next { (self.new.fails_in ≡ self.old.fails_in - 1) × (self.new.most ≡ self.old.most) }
     {
         let fails = self.fails_in == 1;
         self.fails_in = self.fails_in.saturating_sub(1);
