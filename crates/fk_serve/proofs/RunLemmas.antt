@@ -6,8 +6,10 @@ use Rattle.std.proofs.lemmas.Bool.{cases_Bool}
 use Rattle.std.proofs.lemmas.List.{length_push, length-map, take-append-drop}
 use Rattle.fk_base.specs.declared.digest.Digest.{Digest}
 use Rattle.fk_base.specs.declared.purpose.Purpose.{Purpose}
+use Rattle.fk_base.specs.declared.memory.Failed.{Failed}
 use Rattle.fk_host.specs.Count.{Rose, HasCause}
 use Rattle.fk_host.specs.Stream.{Gives}
+use Rattle.fk_host.proofs.Counts.{HasCause-Rose}
 use Rattle.fk_host.proofs.Streams.{Gives-append, Gives-nil}
 use Rattle.fk_trace.specs.declared.change.Change.{Change}
 use Rattle.fk_trace.specs.Trace.{Item, is_turn, past_after}
@@ -26,7 +28,7 @@ use Rattle.fk_serve.specs.RunStates.{HasSent, AtTurn, HasServed, IsWholeRun}
 use Rattle.fk_serve.proofs.Places.{past_after-append}
 
 -- a write behind others
-pub sent-more : {T E : Type 0} (sent text : List ℕ) (start before after : Option (List ℕ)) (first second third : ℕ) (result : Result T E) (broken : Bool)
+pub sent-more : {T : Type 0} (sent text : List ℕ) (start before after : Option (List ℕ)) (first second third : ℕ) (result : Result T Failed) (broken : Bool)
     → HasSent sent false start before first second
     → OnOk result (Gives text before after)
     → OnErr result ((n : ℕ) × (n < length text) × Gives (take n text) before after)
@@ -43,7 +45,7 @@ sent-more sent text start before after first second third (Ok _) broken h given 
       whole = λ _. (refl, cause ∙ (h.whole refl).1);
       rose = λ e. absurd (cc);
     }
-sent-more sent text start before after first second third (Err _) broken h given part cause is =
+sent-more {T} sent text start before after first second third (Err error) broken h given part cause is =
     let all : h.printed ≡ sent = sym (append-nil h.printed) ∙ ap (λ v. h.printed ++ v) (sym (h.whole refl).0) ∙ h.shown in
     record {
       printed = h.printed ++ take part.0 text;
@@ -51,7 +53,7 @@ sent-more sent text start before after first second third (Err _) broken h given
       output = Gives-append h.printed (take part.0 text) start before after h.output part.2;
       shown = append_assoc h.printed (take part.0 text) (drop part.0 text) ∙ ap (λ v. h.printed ++ v) (take-append-drop part.0 text) ∙ ap (λ v. v ++ text) all;
       whole = λ e. absurd (cc);
-      rose = λ _. subst (λ (n : ℕ). Rose n third) (h.whole refl).1 cause;
+      rose = λ _. subst (λ (n : ℕ). Rose n third) (h.whole refl).1 (HasCause-Rose T second third error cause);
     }
 
 -- behind a write that failed nothing is written
