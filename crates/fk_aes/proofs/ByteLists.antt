@@ -3,7 +3,8 @@ use Rattle.std.proofs.Common.{◌≡◌, ℕ, zero, suc, ◌+◌, ◌<◌, ◌�
 use Rattle.std.proofs.lemmas.Bool.{cases_lt}
 use Rattle.std.proofs.lemmas.List.Edits.{map_over_more}
 use Rattle.std.proofs.lemmas.List.{append-nil, drop_all, get_or_default, length-append, length-drop, length-map, length-take, take_all, get_or-map, get_or_past, get_or_append_left, get_or-append_right}
-use Rattle.fk_aes.specs.Field.{◌⊕◌, xor_bytes, IsBytes}
+use Rattle.fk_base.specs.Bytes.{HasBytes}
+use Rattle.fk_aes.specs.Field.{◌⊕◌, xor_bytes}
 use Rattle.fk_aes.proofs.FieldLemmas.{xor-below, xor-twice}
 
 -- n elements of a list from place i on, each read by its place
@@ -34,11 +35,11 @@ byte_in [] h k = omega arith
 byte_in (x ∷ xs) h zero = h.0
 byte_in (x ∷ xs) h (suc k) = byte_in xs h.1 k
 
-pub written_out : (n : ℕ) (xs : List ℕ) → length xs ≡ n → AllBytes xs → IsBytes n xs
+pub written_out : (n : ℕ) (xs : List ℕ) → length xs ≡ n → AllBytes xs → HasBytes n xs
 written_out n xs l h = record { size = l; each = byte_in xs h }
 
-pub IsBytes-map : (f : ℕ → ℕ) (n : ℕ) (xs : List ℕ) → ((b : ℕ) → b < 256 → f b < 256) → IsBytes n xs → IsBytes n (map f xs)
-IsBytes-map f n xs fits h = record {
+pub HasBytes-map : (f : ℕ → ℕ) (n : ℕ) (xs : List ℕ) → ((b : ℕ) → b < 256 → f b < 256) → HasBytes n xs → HasBytes n (map f xs)
+HasBytes-map f n xs fits h = record {
   size = length-map xs f ∙ h.size;
   each = λ k. elim (cases_lt k (length xs)) [
     | inl lt ↦ rw (get_or-map f xs k 0 0 lt) (fits (get_or xs k 0) (h.each k))
@@ -48,8 +49,8 @@ IsBytes-map f n xs fits h = record {
   ];
 }
 
-pub IsBytes-append : (m n t : ℕ) (xs ys : List ℕ) → m + n ≡ t → IsBytes m xs → IsBytes n ys → IsBytes t (xs ++ ys)
-IsBytes-append m n t xs ys e hx hy = record {
+pub HasBytes-append : (m n t : ℕ) (xs ys : List ℕ) → m + n ≡ t → HasBytes m xs → HasBytes n ys → HasBytes t (xs ++ ys)
+HasBytes-append m n t xs ys e hx hy = record {
   size = omega (arith, length-append xs ys, hx.size, hy.size);
   each = λ k. elim (cases_lt k (length xs)) [
     | inl lt ↦ rw (get_or_append_left xs ys 0 k lt) (hx.each k)
@@ -75,8 +76,8 @@ get_or-xor_bytes (x ∷ xs) (y ∷ ys) (suc k) h =
     let rest : length xs ≡ length ys = omega arith in
     get_or-xor_bytes xs ys k rest
 
-pub IsBytes-xor_bytes : (n : ℕ) (xs ys : List ℕ) → IsBytes n xs → IsBytes n ys → IsBytes n (xor_bytes xs ys)
-IsBytes-xor_bytes n xs ys hx hy =
+pub HasBytes-xor_bytes : (n : ℕ) (xs ys : List ℕ) → HasBytes n xs → HasBytes n ys → HasBytes n (xor_bytes xs ys)
+HasBytes-xor_bytes n xs ys hx hy =
     let same : length xs ≡ length ys = hx.size ∙ sym hy.size in
     record {
       size = length-xor_bytes xs ys same ∙ hx.size;

@@ -1,7 +1,8 @@
 -- The matrices of MixColumns and InvMixColumns undo each other, column by column.
 use Rattle.std.proofs.Common.{◌≡◌, ℕ, ◌<◌, [], ◌∷◌, refl, ap, ◌∙◌, arith}
 use lib.Bits.{xor_zero_r}
-use Rattle.fk_aes.specs.Field.{◌⊕◌, ◌•◌, xtime, product_by_bits, IsBytes}
+use Rattle.fk_base.specs.Bytes.{HasBytes}
+use Rattle.fk_aes.specs.Field.{◌⊕◌, ◌•◌, xtime, product_by_bits}
 use Rattle.fk_aes.specs.State.{row_times, mix_column, inv_mix_column}
 use Rattle.fk_aes.proofs.ByteLists.{written_out}
 use Rattle.fk_aes.proofs.FieldLemmas.{product-xor, product-below, same_at, xor-below, xor-interchange}
@@ -194,9 +195,9 @@ row_times-below k0 k1 k2 k3 a b c d l0 l1 l2 l3 =
     (xor-below (k0 • a ⊕ k1 • b) (k2 • c) (xor-below (k0 • a) (k1 • b) (product-below k0 a l0) (product-below k1 b l1)) (product-below k2 c l2))
     (product-below k3 d l3)
 
-pub IsBytes-mix_column : (a b c d : ℕ) → IsBytes 4 (mix_column a b c d)
+pub HasBytes-mix_column : (a b c d : ℕ) → HasBytes 4 (mix_column a b c d)
 unfolding mix_column
-IsBytes-mix_column a b c d =
+HasBytes-mix_column a b c d =
     written_out 4 _ refl (
       row_times-below 2 3 1 1 a b c d (omega arith) (omega arith) (omega arith) (omega arith),
       (
@@ -211,9 +212,9 @@ IsBytes-mix_column a b c d =
       ),
     )
 
-pub IsBytes-inv_mix_column : (a b c d : ℕ) → IsBytes 4 (inv_mix_column a b c d)
+pub HasBytes-inv_mix_column : (a b c d : ℕ) → HasBytes 4 (inv_mix_column a b c d)
 unfolding inv_mix_column
-IsBytes-inv_mix_column a b c d =
+HasBytes-inv_mix_column a b c d =
     written_out 4 _ refl (
       row_times-below 14 11 13 9 a b c d (omega arith) (omega arith) (omega arith) (omega arith),
       (

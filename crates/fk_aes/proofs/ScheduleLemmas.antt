@@ -4,10 +4,11 @@ use Rattle.std.specs.Prelude.{if◌then◌else◌}
 use Rattle.std.proofs.lemmas.Bool.{agree_below_at, eqb-true}
 use Rattle.std.proofs.lemmas.List.{get_or-take, length-append, length-map, length-set, take-append-le, take_all, take_more_set}
 use Rattle.fk_aes.specs.declared.expansion.TheConstants.{ROUND_CONSTANTS}
-use Rattle.fk_aes.specs.Field.{IsBytes, xtime}
+use Rattle.fk_base.specs.Bytes.{HasBytes}
+use Rattle.fk_aes.specs.Field.{xtime}
 use Rattle.fk_aes.specs.KeyExpansion.{addend, first_words, key_expansion, next_word, power_of_x, rot_word, round_constant, sub_word, word_at}
 use Rattle.fk_aes.specs.Substitution.{sub_byte}
-use Rattle.fk_aes.proofs.ByteLists.{IsBytes-append, IsBytes-map, IsBytes-xor_bytes, length-xor_bytes, list-elements, written_out}
+use Rattle.fk_aes.proofs.ByteLists.{HasBytes-append, HasBytes-map, HasBytes-xor_bytes, length-xor_bytes, list-elements, written_out}
 use Rattle.fk_aes.proofs.FieldLemmas.{xtime-below}
 use Rattle.fk_aes.proofs.SubstitutionLemmas.{sub_byte-below}
 
@@ -16,44 +17,44 @@ unfolding power_of_x
 power_of_x-below zero = omega arith
 power_of_x-below (suc n) = xtime-below (power_of_x n) (power_of_x-below n)
 
-IsBytes-word_at : (w : List ℕ) (i : ℕ) → ((k : ℕ) → get_or w k 0 < 256) → IsBytes 4 (word_at w i)
-IsBytes-word_at w i h = written_out 4 _ refl (h (4 * i), (h (4 * i + 1), (h (4 * i + 2), (h (4 * i + 3), tt))))
+HasBytes-word_at : (w : List ℕ) (i : ℕ) → ((k : ℕ) → get_or w k 0 < 256) → HasBytes 4 (word_at w i)
+HasBytes-word_at w i h = written_out 4 _ refl (h (4 * i), (h (4 * i + 1), (h (4 * i + 2), (h (4 * i + 3), tt))))
 
-IsBytes-sub_word : (a : List ℕ) → IsBytes 4 a → IsBytes 4 (sub_word a)
-IsBytes-sub_word a h = IsBytes-map sub_byte 4 a sub_byte-below h
+HasBytes-sub_word : (a : List ℕ) → HasBytes 4 a → HasBytes 4 (sub_word a)
+HasBytes-sub_word a h = HasBytes-map sub_byte 4 a sub_byte-below h
 
-IsBytes-rot_word : (a : List ℕ) → IsBytes 4 a → IsBytes 4 (rot_word a)
-IsBytes-rot_word a h = written_out 4 _ refl (h.each 1, (h.each 2, (h.each 3, (h.each 0, tt))))
+HasBytes-rot_word : (a : List ℕ) → HasBytes 4 a → HasBytes 4 (rot_word a)
+HasBytes-rot_word a h = written_out 4 _ refl (h.each 1, (h.each 2, (h.each 3, (h.each 0, tt))))
 
-IsBytes-round_constant : (j : ℕ) → IsBytes 4 (round_constant j)
-IsBytes-round_constant j = written_out 4 _ refl (power_of_x-below (j - 1), (omega arith, (omega arith, (omega arith, tt))))
+HasBytes-round_constant : (j : ℕ) → HasBytes 4 (round_constant j)
+HasBytes-round_constant j = written_out 4 _ refl (power_of_x-below (j - 1), (omega arith, (omega arith, (omega arith, tt))))
 
-IsBytes-if : (b : Bool) (xs ys : List ℕ) → IsBytes 4 xs → IsBytes 4 ys → IsBytes 4 (if b then xs else ys)
-IsBytes-if true xs ys hx hy = hx
-IsBytes-if false xs ys hx hy = hy
+HasBytes-if : (b : Bool) (xs ys : List ℕ) → HasBytes 4 xs → HasBytes 4 ys → HasBytes 4 (if b then xs else ys)
+HasBytes-if true xs ys hx hy = hx
+HasBytes-if false xs ys hx hy = hy
 
-IsBytes-addend : (i : ℕ) (a : List ℕ) → IsBytes 4 a → IsBytes 4 (addend i a)
+HasBytes-addend : (i : ℕ) (a : List ℕ) → HasBytes 4 a → HasBytes 4 (addend i a)
 unfolding addend
-IsBytes-addend i a h =
-    IsBytes-if (i % 8 == 0) _ _
-    (IsBytes-xor_bytes 4 _ _ (IsBytes-sub_word (rot_word a) (IsBytes-rot_word a h)) (IsBytes-round_constant (i / 8)))
-    (IsBytes-if (i % 8 == 4) _ _ (IsBytes-sub_word a h) h)
+HasBytes-addend i a h =
+    HasBytes-if (i % 8 == 0) _ _
+    (HasBytes-xor_bytes 4 _ _ (HasBytes-sub_word (rot_word a) (HasBytes-rot_word a h)) (HasBytes-round_constant (i / 8)))
+    (HasBytes-if (i % 8 == 4) _ _ (HasBytes-sub_word a h) h)
 
-IsBytes-next_word : (w : List ℕ) (i : ℕ) → ((k : ℕ) → get_or w k 0 < 256) → IsBytes 4 (next_word w i)
+HasBytes-next_word : (w : List ℕ) (i : ℕ) → ((k : ℕ) → get_or w k 0 < 256) → HasBytes 4 (next_word w i)
 unfolding next_word
-IsBytes-next_word w i h =
-    IsBytes-xor_bytes 4 _ _ (IsBytes-word_at w (i - 8) h) (IsBytes-addend i (word_at w (i - 1)) (IsBytes-word_at w (i - 1) h))
+HasBytes-next_word w i h =
+    HasBytes-xor_bytes 4 _ _ (HasBytes-word_at w (i - 8) h) (HasBytes-addend i (word_at w (i - 1)) (HasBytes-word_at w (i - 1) h))
 
-IsBytes-first_words : (key : List ℕ) (n : ℕ) → IsBytes 32 key → IsBytes (4 * n + 32) (first_words key n)
+HasBytes-first_words : (key : List ℕ) (n : ℕ) → HasBytes 32 key → HasBytes (4 * n + 32) (first_words key n)
 unfolding first_words
-IsBytes-first_words key zero h = h
-IsBytes-first_words key (suc n) h =
-    let before : IsBytes (4 * n + 32) (first_words key n) = IsBytes-first_words key n h in
-    IsBytes-append (4 * n + 32) 4 (4 * suc n + 32) _ _ (omega arith) before (IsBytes-next_word (first_words key n) (8 + n) before.each)
+HasBytes-first_words key zero h = h
+HasBytes-first_words key (suc n) h =
+    let before : HasBytes (4 * n + 32) (first_words key n) = HasBytes-first_words key n h in
+    HasBytes-append (4 * n + 32) 4 (4 * suc n + 32) _ _ (omega arith) before (HasBytes-next_word (first_words key n) (8 + n) before.each)
 
-pub IsBytes-key_expansion : (key : List ℕ) → IsBytes 32 key → IsBytes 240 (key_expansion key)
+pub HasBytes-key_expansion : (key : List ℕ) → HasBytes 32 key → HasBytes 240 (key_expansion key)
 unfolding key_expansion
-IsBytes-key_expansion key h = IsBytes-first_words key 52 h
+HasBytes-key_expansion key h = HasBytes-first_words key 52 h
 
 -- ---- the schedule begins with the key
 

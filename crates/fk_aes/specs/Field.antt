@@ -39,8 +39,3 @@ unfoldable pub xor_bytes : List ℕ → List ℕ → List ℕ
 xor_bytes [] ks = []
 xor_bytes (b ∷ bs) [] = []
 xor_bytes (b ∷ bs) (k ∷ ks) = (b ⊕ k) ∷ xor_bytes bs ks
-
--- a list of n bytes: what a key, with 32 of them, and a block, with 16, are (3.1, 3.2)
-pub record IsBytes (n : ℕ) (s : List ℕ) : Type 0 where
-  pub size : length s ≡ n
-  pub each : (k : ℕ) → slice_index s k < 256

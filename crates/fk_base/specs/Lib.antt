@@ -1,4 +1,5 @@
 pub mod Address
+pub mod Bytes
 pub mod Decimal
 pub mod HashKind
 pub mod PairText

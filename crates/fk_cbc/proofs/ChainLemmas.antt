@@ -7,9 +7,10 @@ use Rattle.std.proofs.lemmas.List.{append-nil, drop-drop, drop_at, get_or-drop, 
 use Rattle.std.proofs.lemmas.Slice.{drop-put_mid, take-put_mid}
 use borrow.Rule.Slice.PartMut.{put_mid}
 use Rattle.fk_aes.specs.Cipher.{cipher, decipher}
-use Rattle.fk_aes.specs.Field.{IsBytes, xor_bytes}
-use Rattle.fk_aes.proofs.ByteLists.{IsBytes-xor_bytes, xor_bytes-twice}
-use Rattle.fk_aes.proofs.CipherLaws.{IsBytes-cipher, decipher-cipher}
+use Rattle.fk_base.specs.Bytes.{IsBytes, HasBytes}
+use Rattle.fk_aes.specs.Field.{xor_bytes}
+use Rattle.fk_aes.proofs.ByteLists.{HasBytes-xor_bytes, xor_bytes-twice}
+use Rattle.fk_aes.proofs.CipherLaws.{HasBytes-cipher, decipher-cipher}
 use Rattle.fk_cbc.specs.Chain.{Chained, Encrypts}
 
 -- the last of some blocks, and `before` where there is none
@@ -34,7 +35,7 @@ last_block-push : (v : List ℕ) (cs : List (List ℕ)) (c : List ℕ) → last_
 last_block-push v [] c = refl
 last_block-push v (d ∷ cs) c = last_block-push d cs c
 
-Chained-push : (key v : List ℕ) (ps cs : List (List ℕ)) (p c : List ℕ) → Chained key v ps cs → IsBytes 16 p
+Chained-push : (key v : List ℕ) (ps cs : List (List ℕ)) (p c : List ℕ) → Chained key v ps cs → HasBytes 16 p
     → c ≡ cipher key (xor_bytes p (last_block v cs)) → Chained key v (ps ++ p ∷ []) (cs ++ c ∷ [])
 Chained-push key v [] [] p c h b e = (b, e, tt)
 Chained-push key v [] (d ∷ cs) p c h b e = absurd h
@@ -46,7 +47,7 @@ EncryptsUpTo-none key vector =
     record { ps = []; cs = []; text_is = refl; encrypted_is = refl; chained = tt; last_is = refl }
 
 pub EncryptsUpTo-more : {key vector text encrypted last : List ℕ} (p c : List ℕ) → EncryptsUpTo key vector text encrypted last
-    → IsBytes 16 p → c ≡ cipher key (xor_bytes p last) → EncryptsUpTo key vector (text ++ p) (encrypted ++ c) c
+    → HasBytes 16 p → c ≡ cipher key (xor_bytes p last) → EncryptsUpTo key vector (text ++ p) (encrypted ++ c) c
 EncryptsUpTo-more {key = key} {vector = vector} p c h b e =
     let from_last : c ≡ cipher key (xor_bytes p (last_block vector h.cs)) = e ∙ ap (λ r. cipher key (xor_bytes p r)) h.last_is in
     record {
@@ -63,9 +64,10 @@ EncryptsUpTo-all h = record { ps = h.ps; cs = h.cs; text_is = h.text_is; encrypt
 
 -- ---- blocks that are written in place
 
-pub IsBytes-part : (xs : List ℕ) (a k : ℕ) → ((j : ℕ) → get_or xs j 0 < 256) → a + 16 ≤ length xs → k ≡ 16 → IsBytes 16 (take k (drop a xs))
-IsBytes-part xs a k h room e =
-    let size : length (take k (drop a xs)) ≡ 16 = simp (length-take, length-drop) (omega arith) in
+-- n bytes of a list of bytes
+pub HasBytes-part : (n : ℕ) (xs : List ℕ) (a k : ℕ) → IsBytes xs → a + n ≤ length xs → k ≡ n → HasBytes n (take k (drop a xs))
+HasBytes-part n xs a k h room e =
+    let size : length (take k (drop a xs)) ≡ n = simp (length-take, length-drop) (omega arith) in
     record {
       size = size;
       each = λ j. elim (cases_lt j k) [
@@ -124,7 +126,7 @@ pub SealedUpTo-more : (key vector xs ys : List ℕ) (i : ℕ) (last new next : L
     → SealedUpTo key vector xs (put_mid (16 * i) k ys new) (i + 1) next
 SealedUpTo-more key vector xs ys i last new next k h ek lt size written sealed =
     let room : 16 * i + 16 ≤ length xs = omega arith in
-    let block : IsBytes 16 (take k (drop (16 * i) ys)) = rw h.rest (IsBytes-part xs (16 * i) k h.bytes room ek) in
+    let block : HasBytes 16 (take k (drop (16 * i) ys)) = rw h.rest (HasBytes-part 16 xs (16 * i) k h.bytes room ek) in
     let w = writes_block xs ys new i k ek h.size room size h.rest in
     let more : EncryptsUpTo key vector (take (16 * i) xs ++ take k (drop (16 * i) ys)) (take (16 * i) ys ++ next) next =
     EncryptsUpTo-more (take k (drop (16 * i) ys)) next h.done block sealed in
@@ -138,7 +140,7 @@ SealedUpTo-more key vector xs ys i last new next k h ek lt size written sealed =
     }
 
 pub OpenedUpTo-more : (key vector xs ys : List ℕ) (i : ℕ) (last new next : List ℕ) (k : ℕ) → OpenedUpTo key vector xs ys i last
-    → k ≡ 16 → i < length xs / 16 → IsBytes 16 new → next ≡ take k (drop (16 * i) ys)
+    → k ≡ 16 → i < length xs / 16 → HasBytes 16 new → next ≡ take k (drop (16 * i) ys)
     → take k (drop (16 * i) ys) ≡ cipher key (xor_bytes new last)
     → OpenedUpTo key vector xs (put_mid (16 * i) k ys new) (i + 1) next
 OpenedUpTo-more key vector xs ys i last new next k h ek lt new_bytes was plain =
@@ -180,33 +182,33 @@ back-same : (a b xs ys : List ℕ) → length a ≡ length b → a ++ xs ≡ b +
 back-same a b xs ys l e = sym (drop_at a xs (length a) refl) ∙ ap (drop (length a)) e ∙ drop_at b ys (length a) (sym l)
 
 -- a block of the cipher has one plain block
-plain-same : (key v p q : List ℕ) → IsBytes 32 key → IsBytes 16 v → IsBytes 16 p → IsBytes 16 q
+plain-same : (key v p q : List ℕ) → HasBytes 32 key → HasBytes 16 v → HasBytes 16 p → HasBytes 16 q
     → cipher key (xor_bytes p v) ≡ cipher key (xor_bytes q v) → p ≡ q
 plain-same key v p q hk hv hp hq e =
     let under : xor_bytes p v ≡ xor_bytes q v =
-    sym (decipher-cipher key (xor_bytes p v) hk (IsBytes-xor_bytes 16 p v hp hv)) ∙ ap (decipher key) e ∙ decipher-cipher key (xor_bytes q v) hk (IsBytes-xor_bytes 16 q v hq hv) in
+    sym (decipher-cipher key (xor_bytes p v) hk (HasBytes-xor_bytes 16 p v hp hv)) ∙ ap (decipher key) e ∙ decipher-cipher key (xor_bytes q v) hk (HasBytes-xor_bytes 16 q v hq hv) in
     sym (xor_bytes-twice p v (hp.size ∙ sym hv.size)) ∙ ap (λ r. xor_bytes r v) under ∙ xor_bytes-twice q v (hq.size ∙ sym hv.size)
 
-IsBytes-next : (key v p c : List ℕ) → IsBytes 32 key → IsBytes 16 v → IsBytes 16 p → c ≡ cipher key (xor_bytes p v) → IsBytes 16 c
-IsBytes-next key v p c hk hv hp e =
-    subst (IsBytes 16) (sym e) (IsBytes-cipher key (xor_bytes p v) hk (IsBytes-xor_bytes 16 p v hp hv))
+HasBytes-next : (key v p c : List ℕ) → HasBytes 32 key → HasBytes 16 v → HasBytes 16 p → c ≡ cipher key (xor_bytes p v) → HasBytes 16 c
+HasBytes-next key v p c hk hv hp e =
+    subst (HasBytes 16) (sym e) (HasBytes-cipher key (xor_bytes p v) hk (HasBytes-xor_bytes 16 p v hp hv))
 
-texts-same : (key v : List ℕ) (ps cs qs ds : List (List ℕ)) → IsBytes 32 key → IsBytes 16 v → Chained key v ps cs → Chained key v qs ds
+texts-same : (key v : List ℕ) (ps cs qs ds : List (List ℕ)) → HasBytes 32 key → HasBytes 16 v → Chained key v ps cs → Chained key v qs ds
     → concat cs ≡ concat ds → concat ps ≡ concat qs
 texts-same key v [] [] [] [] hk hv h g e = refl
 texts-same key v [] [] [] (d ∷ ds) hk hv h g e = absurd g
 texts-same key v [] [] (q ∷ qs) [] hk hv h g e = absurd g
 texts-same key v [] [] (q ∷ qs) (d ∷ ds) hk hv h g e =
-    absurd (omega (arith, (IsBytes-next key v q d hk hv g.0 g.1).size, ap length e, length-append d (concat ds)))
+    absurd (omega (arith, (HasBytes-next key v q d hk hv g.0 g.1).size, ap length e, length-append d (concat ds)))
 texts-same key v [] (c ∷ cs) qs ds hk hv h g e = absurd h
 texts-same key v (p ∷ ps) [] qs ds hk hv h g e = absurd h
 texts-same key v (p ∷ ps) (c ∷ cs) [] [] hk hv h g e =
-    absurd (omega (arith, (IsBytes-next key v p c hk hv h.0 h.1).size, ap length e, length-append c (concat cs)))
+    absurd (omega (arith, (HasBytes-next key v p c hk hv h.0 h.1).size, ap length e, length-append c (concat cs)))
 texts-same key v (p ∷ ps) (c ∷ cs) [] (d ∷ ds) hk hv h g e = absurd g
 texts-same key v (p ∷ ps) (c ∷ cs) (q ∷ qs) [] hk hv h g e = absurd g
 texts-same key v (p ∷ ps) (c ∷ cs) (q ∷ qs) (d ∷ ds) hk hv h g e =
-    let hc = IsBytes-next key v p c hk hv h.0 h.1 in
-    let hd = IsBytes-next key v q d hk hv g.0 g.1 in
+    let hc = HasBytes-next key v p c hk hv h.0 h.1 in
+    let hd = HasBytes-next key v q d hk hv g.0 g.1 in
     let sizes : length c ≡ length d = hc.size ∙ sym hd.size in
     let firsts : c ≡ d = front-same c d (concat cs) (concat ds) sizes e in
     let rests : concat cs ≡ concat ds = back-same c d (concat cs) (concat ds) sizes e in
@@ -214,7 +216,7 @@ texts-same key v (p ∷ ps) (c ∷ cs) (q ∷ qs) (d ∷ ds) hk hv h g e =
     let more : concat ps ≡ concat qs = texts-same key c ps cs qs ds hk hc h.2 (subst (λ r. Chained key r qs ds) (sym firsts) g.2) rests in
     λ i. plains i ++ more i
 
-pub Encrypts-same : {key vector text other encrypted : List ℕ} → IsBytes 32 key → IsBytes 16 vector
+pub Encrypts-same : {key vector text other encrypted : List ℕ} → HasBytes 32 key → HasBytes 16 vector
     → Encrypts key vector text encrypted → Encrypts key vector other encrypted → text ≡ other
 Encrypts-same {key = key} {vector = vector} hk hv h g =
     h.text_is ∙ texts-same key vector h.ps h.cs g.ps g.cs hk hv h.chained g.chained (sym h.encrypted_is ∙ g.encrypted_is) ∙ sym g.text_is
@@ -225,12 +227,12 @@ pub record HasBlocks (text encrypted : List ℕ) : Type 0 where
   pub text_len : length text ≡ 16 * n
   pub encrypted_len : length encrypted ≡ 16 * n
 
-Chained-blocks : (key v : List ℕ) (ps cs : List (List ℕ)) → IsBytes 32 key → IsBytes 16 v → Chained key v ps cs → HasBlocks (concat ps) (concat cs)
+Chained-blocks : (key v : List ℕ) (ps cs : List (List ℕ)) → HasBytes 32 key → HasBytes 16 v → Chained key v ps cs → HasBlocks (concat ps) (concat cs)
 Chained-blocks key v [] [] hk hv h = record { n = 0; text_len = refl; encrypted_len = refl }
 Chained-blocks key v [] (c ∷ cs) hk hv h = absurd h
 Chained-blocks key v (p ∷ ps) [] hk hv h = absurd h
 Chained-blocks key v (p ∷ ps) (c ∷ cs) hk hv h =
-    let hc = IsBytes-next key v p c hk hv h.0 h.1 in
+    let hc = HasBytes-next key v p c hk hv h.0 h.1 in
     let more = Chained-blocks key c ps cs hk hc h.2 in
     record {
       n = more.n + 1;
@@ -238,7 +240,7 @@ Chained-blocks key v (p ∷ ps) (c ∷ cs) hk hv h =
       encrypted_len = omega (arith, length-append c (concat cs), hc.size, more.encrypted_len);
     }
 
-pub Encrypts-blocks : {key vector text encrypted : List ℕ} → IsBytes 32 key → IsBytes 16 vector → Encrypts key vector text encrypted → HasBlocks text encrypted
+pub Encrypts-blocks : {key vector text encrypted : List ℕ} → HasBytes 32 key → HasBytes 16 vector → Encrypts key vector text encrypted → HasBlocks text encrypted
 Encrypts-blocks {key = key} {vector = vector} hk hv h =
     let b = Chained-blocks key vector h.ps h.cs hk hv h.chained in
     record { n = b.n; text_len = ap length h.text_is ∙ b.text_len; encrypted_len = ap length h.encrypted_is ∙ b.encrypted_len }

@@ -1,6 +1,6 @@
 -- The sealed bytes of the empty plaintext under the key "k" and the salt 0 to 7, computed from the definitions. OpenSSL writes the
 -- same, by `openssl enc -aes-256-cbc -md md5 -S 0001020304050607 -pass pass:k`.
-use Rattle.std.proofs.Common.{ℕ, ◌≡◌, List, [], ◌∷◌, ◌++◌, codes, refl, sym, subst, arith}
+use Rattle.std.proofs.Common.{ℕ, ◌≡◌, List, [], ◌∷◌, ◌++◌, ◌<◌, codes, slice_index, refl, sym, subst, arith}
 use Rattle.md5.specs.Md5.{md5, digest_bytes, hash_after, compress, rounds, block_words}
 use Rattle.fk_aes.specs.Cipher.{after_rounds, cipher, cipher_by}
 use Rattle.fk_aes.specs.Field.{◌•◌, inverse, last_below, product_by_bits, xor_bytes, xtime}
@@ -56,9 +56,13 @@ seals_example : Seals (codes "k") salt [] (salt_mark ++ salt ++ block)
 unfolding salt
 seals_example = record {
   blocks = block;
-  salt_len = refl;
+  salt_is = written_out 8 salt refl (omega arith, (omega arith, (omega arith, (omega arith, (omega arith, (omega arith, (omega arith, (omega arith, tt))))))));
   sealed_is = refl;
   encrypts =
       subst (λ k. Encrypts k (initial_vector (codes "k") salt) (padded []) block) (sym key_example)
       (subst (λ v. Encrypts key v (padded []) block) (sym vector_example) encrypts_example);
 }
+
+-- nothing is sealed with eight numbers of which one is above 255
+no_wide_salt : (key salt plain sealed : List ℕ) (i : ℕ) → 255 < slice_index salt i → Seals key salt plain sealed → ⊥
+no_wide_salt key salt plain sealed i wide h = let byte = h.salt_is.each i in omega arith

@@ -4,36 +4,36 @@ use Rattle.std.proofs.lemmas.List.{append-nil, drop_all, drop_at, take_all, take
 use Rattle.std.specs.Int.{w32, to_le_bytes}
 use borrow.Rule.Slice.PartMut.{put_mid}
 use Rattle.md5.specs.Md5.{md5, digest_bytes}
-use Rattle.fk_aes.specs.Field.{IsBytes}
-use Rattle.fk_aes.proofs.ByteLists.{IsBytes-append, written_out}
+use Rattle.fk_base.specs.Bytes.{HasBytes}
+use Rattle.fk_aes.proofs.ByteLists.{HasBytes-append, written_out}
 use Rattle.fk_cbc.specs.KeyDerivation.{chained_digest, cipher_key, initial_vector}
 
-IsBytes-word : (n : ℕ) → IsBytes 4 (to_le_bytes w32 n)
-IsBytes-word n = written_out 4 (to_le_bytes w32 n) refl (omega arith, (omega arith, (omega arith, (omega arith, tt))))
+HasBytes-word : (n : ℕ) → HasBytes 4 (to_le_bytes w32 n)
+HasBytes-word n = written_out 4 (to_le_bytes w32 n) refl (omega arith, (omega arith, (omega arith, (omega arith, tt))))
 
-IsBytes-none : IsBytes 0 []
-IsBytes-none = written_out 0 [] refl tt
+HasBytes-none : HasBytes 0 []
+HasBytes-none = written_out 0 [] refl tt
 
-IsBytes-digest_bytes : (h : List ℕ) → IsBytes 16 (digest_bytes h 4)
+HasBytes-digest_bytes : (h : List ℕ) → HasBytes 16 (digest_bytes h 4)
 unfolding digest_bytes
-IsBytes-digest_bytes h =
+HasBytes-digest_bytes h =
     let at = λ (k : ℕ). get_or h k 0 in
-    IsBytes-append 12 4 16 _ _ refl
-    (IsBytes-append 8 4 12 _ _ refl
-    (IsBytes-append 4 4 8 _ _ refl
-    (IsBytes-append 0 4 4 _ _ refl IsBytes-none (IsBytes-word (at 0)))
-    (IsBytes-word (at 1)))
-    (IsBytes-word (at 2)))
-    (IsBytes-word (at 3))
+    HasBytes-append 12 4 16 _ _ refl
+    (HasBytes-append 8 4 12 _ _ refl
+    (HasBytes-append 4 4 8 _ _ refl
+    (HasBytes-append 0 4 4 _ _ refl HasBytes-none (HasBytes-word (at 0)))
+    (HasBytes-word (at 1)))
+    (HasBytes-word (at 2)))
+    (HasBytes-word (at 3))
 
-pub IsBytes-md5 : (m : List ℕ) → IsBytes 16 (md5 m)
+pub HasBytes-md5 : (m : List ℕ) → HasBytes 16 (md5 m)
 unfolding md5
-IsBytes-md5 m = IsBytes-digest_bytes _
+HasBytes-md5 m = HasBytes-digest_bytes _
 
-pub IsBytes-chained_digest : (key salt : List ℕ) (i : ℕ) → IsBytes 16 (chained_digest key salt i)
+pub HasBytes-chained_digest : (key salt : List ℕ) (i : ℕ) → HasBytes 16 (chained_digest key salt i)
 unfolding chained_digest
-IsBytes-chained_digest key salt zero = IsBytes-md5 _
-IsBytes-chained_digest key salt (suc i) = IsBytes-md5 _
+HasBytes-chained_digest key salt zero = HasBytes-md5 _
+HasBytes-chained_digest key salt (suc i) = HasBytes-md5 _
 
 pub cipher_key-is : (key salt : List ℕ) → cipher_key key salt ≡ chained_digest key salt 0 ++ chained_digest key salt 1
 unfolding cipher_key
@@ -41,7 +41,7 @@ cipher_key-is key salt =
     let a = chained_digest key salt 0 in
     let b = chained_digest key salt 1 in
     let c = chained_digest key salt 2 in
-    let size = (IsBytes-append 16 16 32 a b refl (IsBytes-chained_digest key salt 0) (IsBytes-chained_digest key salt 1)).size in
+    let size = (HasBytes-append 16 16 32 a b refl (HasBytes-chained_digest key salt 0) (HasBytes-chained_digest key salt 1)).size in
     take_at (a ++ b) c 32 size
 
 pub initial_vector-is : (key salt : List ℕ) → initial_vector key salt ≡ chained_digest key salt 2
@@ -50,14 +50,14 @@ initial_vector-is key salt =
     let a = chained_digest key salt 0 in
     let b = chained_digest key salt 1 in
     let c = chained_digest key salt 2 in
-    let size = (IsBytes-append 16 16 32 a b refl (IsBytes-chained_digest key salt 0) (IsBytes-chained_digest key salt 1)).size in
-    ap (take 16) (drop_at (a ++ b) c 32 size) ∙ take_all 16 c (omega (arith, (IsBytes-chained_digest key salt 2).size))
+    let size = (HasBytes-append 16 16 32 a b refl (HasBytes-chained_digest key salt 0) (HasBytes-chained_digest key salt 1)).size in
+    ap (take 16) (drop_at (a ++ b) c 32 size) ∙ take_all 16 c (omega (arith, (HasBytes-chained_digest key salt 2).size))
 
-pub IsBytes-cipher_key : (key salt : List ℕ) → IsBytes 32 (cipher_key key salt)
-IsBytes-cipher_key key salt = rw cipher_key-is (IsBytes-append 16 16 32 _ _ refl (IsBytes-chained_digest key salt 0) (IsBytes-chained_digest key salt 1))
+pub HasBytes-cipher_key : (key salt : List ℕ) → HasBytes 32 (cipher_key key salt)
+HasBytes-cipher_key key salt = rw cipher_key-is (HasBytes-append 16 16 32 _ _ refl (HasBytes-chained_digest key salt 0) (HasBytes-chained_digest key salt 1))
 
-pub IsBytes-initial_vector : (key salt : List ℕ) → IsBytes 16 (initial_vector key salt)
-IsBytes-initial_vector key salt = rw initial_vector-is (IsBytes-chained_digest key salt 2)
+pub HasBytes-initial_vector : (key salt : List ℕ) → HasBytes 16 (initial_vector key salt)
+HasBytes-initial_vector key salt = rw initial_vector-is (HasBytes-chained_digest key salt 2)
 
 -- a list of 32 whose second half is written over
 pub put_mid-half : (a zs b : List ℕ) → length a ≡ 16 → length zs ≡ 16 → put_mid 16 16 (a ++ zs) b ≡ a ++ b

@@ -2,6 +2,7 @@
 use Rattle.std.proofs.Common.{◌≡◌, ℕ, ◌+◌, ◌-◌, ◌*◌, ◌/◌, ◌%◌, ◌<◌, ◌≤◌, List, [], ◌++◌, length, take, drop, replicate, refl, sym, ap, ◌∙◌, subst, arith, append_assoc, inl, inr}
 use Rattle.std.proofs.lemmas.List.{drop-drop, drop_at, drop_all, length-append, length-drop, length-replicate, length-take, append-nil, take-append-drop, take-replicate, take_at, take_rest}
 use borrow.Rule.Slice.PartMut.{put_mid}
+use Rattle.fk_base.specs.Bytes.{IsBytes, HasBytes}
 use Rattle.fk_cbc.specs.Chain.{Encrypts}
 use Rattle.fk_cbc.specs.KeyDerivation.{cipher_key, initial_vector}
 use Rattle.fk_cbc.specs.OpenFault.{Deciphers, FirstOpenFault, HasBadLength, HasMark}
@@ -9,8 +10,8 @@ use Rattle.fk_cbc.specs.declared.open_fault.OpenFault.{OpenFault}
 use Rattle.fk_cbc.specs.declared.open_fault.OpenFault.TheVariants.{NotSalted, BadLength, BadPadding, NoMemory}
 use Rattle.fk_cbc.specs.Padding.{HasPadding, padded, padding}
 use Rattle.fk_cbc.specs.Seals.{Seals, salt_in, salt_mark}
-use Rattle.fk_cbc.proofs.ChainLemmas.{Encrypts-blocks, Encrypts-same}
-use Rattle.fk_cbc.proofs.KeyLemmas.{IsBytes-cipher_key, IsBytes-initial_vector}
+use Rattle.fk_cbc.proofs.ChainLemmas.{Encrypts-blocks, Encrypts-same, HasBytes-part}
+use Rattle.fk_cbc.proofs.KeyLemmas.{HasBytes-cipher_key, HasBytes-initial_vector}
 use Rattle.fk_cbc.proofs.PaddingLemmas.{IsPaddedBy-of}
 
 -- one block more than the plaintext has whole ones
@@ -33,7 +34,7 @@ sealed_parts-of key salt plain blocks size h =
     let after_mark : drop 8 sealed ≡ salt ++ blocks = ap (drop 8) (append_assoc salt_mark salt blocks) ∙ drop_at salt_mark (salt ++ blocks) 8 refl in
     let salt_is : salt_in sealed ≡ salt = ap (take 8) after_mark ∙ take_at salt blocks 8 size in
     let blocks_are : drop 16 sealed ≡ blocks = drop_at (salt_mark ++ salt) blocks 16 front in
-    let b = Encrypts-blocks (IsBytes-cipher_key key salt) (IsBytes-initial_vector key salt) h in
+    let b = Encrypts-blocks (HasBytes-cipher_key key salt) (HasBytes-initial_vector key salt) h in
     let total : length sealed ≡ 16 + 16 * b.n = omega (arith, length-append (salt_mark ++ salt) blocks, front, b.encrypted_len) in
     let some : 1 ≤ b.n = omega (arith, length-append plain (padding (16 - length plain % 16)), b.text_len, IsPaddedBy-of (padded plain) plain (16 - length plain % 16) (omega arith) refl) in
     record {
@@ -47,12 +48,12 @@ sealed_parts-of key salt plain blocks size h =
 
 pub sealed_parts : (key salt plain sealed : List ℕ) → Seals key salt plain sealed → SealedParts key salt plain sealed
 sealed_parts key salt plain sealed h =
-    subst (λ s. SealedParts key salt plain s) (sym h.sealed_is) (sealed_parts-of key salt plain h.blocks h.salt_len h.encrypts)
+    subst (λ s. SealedParts key salt plain s) (sym h.sealed_is) (sealed_parts-of key salt plain h.blocks h.salt_is.size h.encrypts)
 
 -- what is deciphered is one text
 pub text-same : (key sealed text other : List ℕ) → Deciphers key sealed text → Deciphers key sealed other → text ≡ other
 text-same key sealed text other h g =
-    Encrypts-same (IsBytes-cipher_key key (salt_in sealed)) (IsBytes-initial_vector key (salt_in sealed)) h g
+    Encrypts-same (HasBytes-cipher_key key (salt_in sealed)) (HasBytes-initial_vector key (salt_in sealed)) h g
 
 -- a padded text has one plaintext
 padded-same : (plain other : List ℕ) → padded plain ≡ padded other → plain ≡ other
@@ -90,16 +91,16 @@ whole sealed mark =
     sym (take-append-drop 8 sealed) ∙ ap (λ r. r ++ drop 8 sealed) mark ∙ ap (λ r. salt_mark ++ r) rest ∙ sym (append_assoc salt_mark (salt_in sealed) (drop 16 sealed))
 
 -- bytes with the mark and a right length whose text has a right padding
-pub Seals-from_parts : (key sealed text plain : List ℕ) (n : ℕ) → HasMark sealed → (HasBadLength sealed → ⊥) → Deciphers key sealed text
+pub Seals-from_parts : (key sealed text plain : List ℕ) (n : ℕ) → IsBytes sealed → HasMark sealed → (HasBadLength sealed → ⊥) → Deciphers key sealed text
     → 1 ≤ n → n ≤ 16 → text ≡ plain ++ padding n → Seals key (salt_in sealed) plain sealed
-Seals-from_parts key sealed text plain n mark right deciphers least most e =
-    let b = Encrypts-blocks (IsBytes-cipher_key key (salt_in sealed)) (IsBytes-initial_vector key (salt_in sealed)) deciphers in
+Seals-from_parts key sealed text plain n bytes mark right deciphers least most e =
+    let b = Encrypts-blocks (HasBytes-cipher_key key (salt_in sealed)) (HasBytes-initial_vector key (salt_in sealed)) deciphers in
     let p = IsPaddedBy-of text plain n least e in
     let all : n ≡ 16 - length plain % 16 = omega (arith, p.len, b.text_len) in
     let long : (length sealed < 32) → ⊥ = λ short. right (inl short) in
     record {
       blocks = drop 16 sealed;
-      salt_len = simp (length-take, length-drop) (omega (arith, long));
+      salt_is = HasBytes-part 8 sealed 8 8 bytes (omega (arith, long)) refl;
       sealed_is = whole sealed mark;
       encrypts = subst (λ t. Encrypts (cipher_key key (salt_in sealed)) (initial_vector key (salt_in sealed)) t (drop 16 sealed)) (e ∙ ap (λ k. plain ++ padding k) all) deciphers;
     }
@@ -121,16 +122,16 @@ put_mid-rest r new long =
     rw (none, append-nil) refl
 
 -- the buffer r with the mark, the salt and the padded plaintext, whose blocks are encrypted then
-pub Seals-from_writes : (key salt plain ck iv r new out : List ℕ) → length salt ≡ 8 → r ≡ salt_mark ++ salt ++ padded plain
+pub Seals-from_writes : (key salt plain ck iv r new out : List ℕ) → HasBytes 8 salt → r ≡ salt_mark ++ salt ++ padded plain
     → ck ≡ cipher_key key salt → iv ≡ initial_vector key salt → Encrypts ck iv (take (length r - 16) (drop 16 r)) new
     → out ≡ take 16 r ++ new → Seals key salt plain out
-Seals-from_writes key salt plain ck iv r new out size er ek ei h eo =
-    let front : length (salt_mark ++ salt) ≡ 16 = length-append salt_mark salt ∙ ap (λ n. 8 + n) size in
+Seals-from_writes key salt plain ck iv r new out salt_is er ek ei h eo =
+    let front : length (salt_mark ++ salt) ≡ 16 = length-append salt_mark salt ∙ ap (λ n. 8 + n) salt_is.size in
     let blocks : take (length r - 16) (drop 16 r) ≡ padded plain =
     take_rest r 16 ∙ ap (drop 16) er ∙ drop_at (salt_mark ++ salt) (padded plain) 16 front in
     record {
       blocks = new;
-      salt_len = size;
+      salt_is = salt_is;
       sealed_is = eo ∙ ap (λ l. take 16 l ++ new) er ∙ ap (λ l. l ++ new) (take_at (salt_mark ++ salt) (padded plain) 16 front);
       encrypts =
           subst (λ k. Encrypts k (initial_vector key salt) (padded plain) new) ek

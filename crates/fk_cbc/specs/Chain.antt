@@ -1,7 +1,8 @@
 -- Cipher block chaining with AES-256 (NIST SP 800-38A, section 6.2). A block is a list of 16 bytes.
 use Rattle.std.specs.Prelude.{◌≡◌, ℕ, List, [], ◌∷◌}
 use Rattle.std.specs.List.{concat}
-use Rattle.fk_aes.specs.Field.{IsBytes, xor_bytes}
+use Rattle.fk_base.specs.Bytes.{HasBytes}
+use Rattle.fk_aes.specs.Field.{xor_bytes}
 use Rattle.fk_aes.specs.Cipher.{cipher}
 
 -- The blocks p1, p2, .. and c1, c2, .. correspond one by one: each ci is the cipher of pi under exclusive or with the c
@@ -10,7 +11,7 @@ abbrev pub Chained : (key before : List ℕ) → (ps cs : List (List ℕ)) → T
 Chained key before [] [] = Unit {0}
 Chained key before [] (c ∷ cs) = ⊥
 Chained key before (p ∷ ps) [] = ⊥
-Chained key before (p ∷ ps) (c ∷ cs) = IsBytes 16 p × (c ≡ cipher key (xor_bytes p before)) × Chained key c ps cs
+Chained key before (p ∷ ps) (c ∷ cs) = HasBytes 16 p × (c ≡ cipher key (xor_bytes p before)) × Chained key c ps cs
 
 -- the text is made of blocks, and the other text of those to which they are chained, with the IV before the first
 pub record Encrypts (key vector text encrypted : List ℕ) : Type 0 where

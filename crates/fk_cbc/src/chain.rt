@@ -2,7 +2,8 @@
 
 ghost use Rattle.std.specs.Prelude.{◌≡◌, ◌+◌, ◌/◌, ◌%◌, ◌<◌, length};
 ghost use Rattle.fk_aes.specs.Cipher.{cipher};
-ghost use Rattle.fk_aes.specs.Field.{IsBytes, xor_bytes};
+ghost use Rattle.fk_base.specs.Bytes.{HasBytes};
+ghost use Rattle.fk_aes.specs.Field.{xor_bytes};
 ghost use Rattle.fk_cbc.specs.Chain.{Encrypts};
 
 use fk_aes::Key256;
@@ -27,7 +28,7 @@ pub(crate) fn open_blocks<L: Ledger>(
     text: &mut [u8],
     steps: &mut Steps<L>,
 )
-    requires key { IsBytes 32 key.now }
+    requires key { HasBytes 32 key.now }
     requires blocks { length text.old % 16 ≡ 0 }
     ensures plain { Encrypts key.now vector text.new text.old }
     ensures steps { steps.new ≡ steps.old + length text.old / 16 }
@@ -59,10 +60,10 @@ fn open_block<L: Ledger>(
     block: &mut [u8],
     steps: &mut Steps<L>,
 ) -> [u8; 16]
-    requires key { IsBytes 32 key.now }
-    requires block { IsBytes 16 block.old }
+    requires key { HasBytes 32 key.now }
+    requires block { HasBytes 16 block.old }
     ensures encrypted { result ≡ block.old }
-    ensures bytes { IsBytes 16 block.new }
+    ensures bytes { HasBytes 16 block.new }
     ensures plain { block.old ≡ cipher key.now (xor_bytes block.new before.now) }
     ensures steps { steps.new ≡ steps.old + 1 }
 {

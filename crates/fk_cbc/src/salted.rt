@@ -1,4 +1,5 @@
 ghost use Rattle.std.specs.Prelude.{◌≡◌, ◌≢◌, ℕ, ◌+◌, ◌*◌, ◌/◌, ◌%◌, ◌⊎◌, ◌≤◌, ◌++◌, List, Err, length, IfErr, IfOk, MatchResult, OnOk};
+ghost use Rattle.fk_base.specs.Bytes.{IsBytes};
 ghost use Rattle.fk_cbc.specs.Chain.{Encrypts};
 ghost use Rattle.fk_cbc.specs.KeyDerivation.{cipher_key, initial_vector};
 ghost use Rattle.fk_cbc.specs.OpenFault.{FirstOpenFault, HasBadLength, HasMark};
@@ -22,7 +23,7 @@ pub fn seal(alloc: Global, key: &[u8], salt: [u8; 8], plain: &[u8]) -> Result<By
     ensures len { IfOk result (λ sealed. length sealed ≡ 32 + length plain.now / 16 * 16) }
 {
     let (cipher_key, vector) = derive(key, salt);
-    let mut sealed = marked(alloc, salt, plain)?;
+    let mut sealed = marked(alloc, &salt, plain)?;
     seal_blocks(&Key256::new(cipher_key), vector, &mut sealed[16..]);
     Ok(sealed.into())
 }
@@ -69,13 +70,14 @@ pub fn one_plaintext()
 {}
 
 // The mark, the salt and the padded plaintext, in one buffer of just that size.
-fn marked(alloc: Global, salt: [u8; 8], plain: &[u8]) -> Result<Vec<u8>, NoMemory>
-    ensures { IfOk result (λ v. v.items ≡ salt_mark ++ salt ++ padded plain.now) }
+fn marked(alloc: Global, salt: &[u8], plain: &[u8]) -> Result<Vec<u8>, NoMemory>
+    ensures text { IfOk result (λ v. v.items ≡ salt_mark ++ salt.now ++ padded plain.now) }
+    ensures salt { IsBytes salt.now }
 {
     let n = padding_len(plain.len());
     let mut bytes = Vec::with_capacity(alloc, 16 + plain.len() + usize::from(n))?;
     bytes.extend_from_slice(MARK)?;
-    bytes.extend_from_slice(&salt)?;
+    bytes.extend_from_slice(salt)?;
     bytes.extend_from_slice(plain)?;
     bytes.extend_from_slice(&[n; 16][..usize::from(n)])?;
     Ok(bytes)

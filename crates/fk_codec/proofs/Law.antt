@@ -14,7 +14,8 @@ use Rattle.fk_base.specs.declared.moment.TheConstants.{GREATEST_MOMENT}
 use Rattle.fk_base.specs.declared.address.Ip4.{Ip4}
 use Rattle.fk_base.specs.declared.pair.Pair.{Pair}
 use Rattle.fk_base.specs.declared.hash_kind.HashKind.{HashKind}
-use Rattle.fk_text.specs.Text.{IsBytes, text_of}
+use Rattle.fk_base.specs.Bytes.{IsBytes}
+use Rattle.fk_text.specs.Text.{text_of}
 use Rattle.fk_mac.specs.Hmac.{hash_of}
 use Rattle.fk_codec.specs.Fields.{Fields, IsFields, Spells, access_type, digest_text, front_of, is_rand, is_version, is_version_byte, message_text, parts_of, spelled}
 use Rattle.fk_codec.specs.Cutting.{are_plain_parts, fields_from, fields_in, fields_of_parts, kind_in, message_in, number_in, parts_at, user_in}

@@ -17,7 +17,8 @@ use Rattle.fk_base.specs.declared.pair.Proto.TheVariants.{Tcp, Udp}
 use Rattle.fk_base.specs.Address.{ip_text}
 use Rattle.fk_base.specs.PairText.{pair_text, proto_text}
 use Rattle.fk_base.proofs.Addresses.{ip_text-from_be_bytes}
-use Rattle.fk_text.specs.Text.{IsBytes, text_of}
+use Rattle.fk_base.specs.Bytes.{IsBytes}
+use Rattle.fk_text.specs.Text.{text_of}
 use Rattle.fk_codec.specs.Fields.{message_text}
 use Rattle.fk_codec.specs.Cutting.{parts_at, number_in, ip_of, ip_of_parts, ip_in, proto_name, proto_in, pair_of, pair_of_parts, pair_in, asked_of, asked_of_parts, bytes_in, message_in}
 use Rattle.fk_codec.proofs.Joined.{Lacks, parts_at-join, join-parts_at, digit_apart, All-join, All-decimal, Lacks-decimal, Lacks-from_test}

@@ -17,7 +17,8 @@ use Rattle.fk_base.specs.Address.{ip_text}
 use Rattle.fk_base.specs.PairText.{pair_text}
 use Rattle.fk_base.specs.Decimal.{decimal_value, first_num_fault}
 use Rattle.fk_base.proofs.Numerals.{number_text, decimal-decimal_value}
-use Rattle.fk_text.specs.Text.{IsBytes, text_of}
+use Rattle.fk_base.specs.Bytes.{IsBytes}
+use Rattle.fk_text.specs.Text.{text_of}
 use Rattle.fk_codec.specs.declared.plaintext.Plaintext.{Plaintext}
 use Rattle.fk_codec.specs.Fields.{Fields, Spells, digest_text, is_user, message_text}
 use Rattle.fk_codec.specs.Cutting.{asked_of, asked_of_parts, fields_in, fields_of_parts, ip_in, kind_by_len, kind_in, message_in, number_in, pair_in, parts_at, user_in}

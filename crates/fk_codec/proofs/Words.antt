@@ -15,7 +15,8 @@ use Rattle.base64.proofs.EngineFacts.{decode_of_strict, decode_of-encode_of}
 use Rattle.fk_base.specs.declared.decimal.NumFault.{NumFault}
 use Rattle.fk_base.specs.Decimal.{decimal_value, first_num_fault}
 use Rattle.fk_base.proofs.Numerals.{number_text, decimal-decimal_value, decimal_value-decimal, first_num_fault-decimal}
-use Rattle.fk_text.specs.Text.{IsBytes, text_of}
+use Rattle.fk_base.specs.Bytes.{IsBytes}
+use Rattle.fk_text.specs.Text.{text_of}
 use Rattle.fk_text.proofs.Symbols.{text_of-encode_of}
 use Rattle.fk_codec.specs.Fields.{is_printable, is_user}
 use Rattle.fk_codec.specs.Cutting.{number_unless, number_in, bytes_in, user_in}

@@ -2,7 +2,8 @@ ghost use Rattle.std.specs.Prelude.{◌≡◌, ℕ, List, is_some, IfOk, MatchOp
 ghost use Rattle.std.specs.Char.{is_ascii_digit};
 ghost use Rattle.std.specs.List.{list_all};
 ghost use Rattle.fk_base.specs.declared.moment.TheConstants.{GREATEST_MOMENT};
-ghost use Rattle.fk_text.specs.Text.{IsBytes, text_of};
+ghost use Rattle.fk_base.specs.Bytes.{IsBytes};
+ghost use Rattle.fk_text.specs.Text.{text_of};
 ghost use Rattle.fk_codec.specs.Fields.{is_printable, is_rand, is_user, is_version, is_version_byte};
 ghost use Rattle.fk_codec.specs.Cutting.{number_in, user_in};
 

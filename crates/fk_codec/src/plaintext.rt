@@ -1,6 +1,6 @@
 ghost use Rattle.std.specs.Prelude.{◌≡◌, ◌↔◌, ℕ, List, Some, IfOk, MatchOption};
 ghost use Rattle.std.specs.Option.{option_map};
-ghost use Rattle.fk_text.specs.Text.{IsBytes};
+ghost use Rattle.fk_base.specs.Bytes.{IsBytes};
 ghost use Rattle.fk_codec.specs.Fields.{Fields, Spells};
 ghost use Rattle.fk_codec.specs.Cutting.{are_plain_parts, fields_in, fields_of_seven};
 ghost use Rattle.fk_codec.specs.Summary.{summary_of};

@@ -1,6 +1,6 @@
 ghost use Rattle.std.specs.Prelude.{◌≡◌, ◌↔◌, ℕ, List};
 ghost use Rattle.fk_base.specs.declared.address.Ip4.{Ip4};
-ghost use Rattle.fk_text.specs.Text.{IsBytes};
+ghost use Rattle.fk_base.specs.Bytes.{IsBytes};
 ghost use Rattle.fk_trace.specs.declared.refusal.LogWhy.TheVariants.{Plain, Age, Port};
 ghost use Rattle.fk_trace.specs.Decision.{Permit};
 ghost use Rattle.fk_trace.specs.Decision.Verdict.{Granted, Refused};

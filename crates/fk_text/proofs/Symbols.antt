@@ -6,7 +6,8 @@ use Rattle.base64.specs.Rfc4648.{encode_symbols}
 use Rattle.base64.specs.GeneralPurpose.{encode_of}
 use Rattle.base64.specs.Engines.{standard_no_pad}
 use Rattle.base64.proofs.Tables.{all_below_at}
-use Rattle.fk_text.specs.Text.{IsBytes, alphabet, letter_of, six_number, bits_of, group_numbers, text_of}
+use Rattle.fk_base.specs.Bytes.{IsBytes}
+use Rattle.fk_text.specs.Text.{alphabet, letter_of, six_number, bits_of, group_numbers, text_of}
 
 -- six bits of one byte, as a number
 high_six : (a : ℕ) → a < 256 → six_number (a / 128 % 2) (a / 64 % 2) (a / 32 % 2) (a / 16 % 2) (a / 8 % 2) (a / 4 % 2) ≡ a / 4

@@ -1,5 +1,6 @@
 ghost use Rattle.std.specs.Prelude.{◌≡◌, ℕ, ◌⊎◌, ◌↔◌, ◌≤◌, ◌+◌, ◌*◌, ◌/◌, List, length, IsTrue, IfOk, IfErr, MatchOption, MatchResult};
-ghost use Rattle.fk_text.specs.Text.{text_of, IsBytes, IsText};
+ghost use Rattle.fk_base.specs.Bytes.{IsBytes};
+ghost use Rattle.fk_text.specs.Text.{text_of, IsText};
 ghost use Rattle.fk_text.specs.TextFault.{FirstTextFault};
 
 use crate::TextFault;

@@ -1,5 +1,5 @@
 use Rattle.std.proofs.Common.{arith}
-use Rattle.fk_cbc.proofs.ChainLemmas.{IsBytes-part, OpenedUpTo-all, OpenedUpTo-more, OpenedUpTo-none}
+use Rattle.fk_cbc.proofs.ChainLemmas.{HasBytes-part, OpenedUpTo-all, OpenedUpTo-more, OpenedUpTo-none}
 use Rattle.fk_cbc.proofs.chain.open_blocks.Goals as goal
 
 pub loop-i-init : goal.loop-i-init
@@ -8,7 +8,7 @@ loop-i-init g c = record { opened = OpenedUpTo-none _ _ _; bytes = λ j. omega (
 pub open_block-before-requires : goal.open_block-before-requires
 open_block-before-requires g c = record {
   key = c.requires.key;
-  block = IsBytes-part c.loop-i.text _ _ c.loop-i.invariant.bytes (omega arith) (omega arith);
+  block = HasBytes-part 16 c.loop-i.text _ _ c.loop-i.invariant.bytes (omega arith) (omega arith);
 }
 
 pub loop-i-preserved : goal.loop-i-preserved

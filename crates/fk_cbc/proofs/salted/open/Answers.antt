@@ -1,4 +1,4 @@
-use Rattle.std.proofs.Common.{◌≡◌, ◌-◌, length, take, ◌∙◌, sym, ap, subst, inl, inr}
+use Rattle.std.proofs.Common.{◌≡◌, ◌-◌, length, take, ◌∙◌, sym, ap, subst, inl, inr, arith}
 use Rattle.fk_cbc.specs.OpenFault.{Deciphers, FirstOpenFault}
 use Rattle.fk_cbc.specs.declared.open_fault.OpenFault.TheVariants.{NotSalted, BadLength, BadPadding}
 use Rattle.fk_cbc.specs.Padding.{HasPadding}
@@ -39,7 +39,7 @@ returns-in-Some-clause-opened g c =
     let plain : take c.in-Some.len text ≡ c.into.result =
     ap (take c.in-Some.len) c.deref.ensures.value ∙ sym {a = c.into.result} (c.into.ensures ∙ c.truncate.ensures.items) in
     subst (λ p. Seals c.args.key.now (salt_in c.args.sealed.now) p c.args.sealed.now) plain
-    (Seals-from_parts c.args.key.now c.args.sealed.now text (take c.in-Some.len text) (length text - c.in-Some.len) m.0 m.1 d n.1 n.2 n.0)
+    (Seals-from_parts c.args.key.now c.args.sealed.now text (take c.in-Some.len text) (length text - c.in-Some.len) (λ j. omega (arith, c.type_inv.sealed j)) m.0 m.1 d n.1 n.2 n.0)
 
 pub returns-in-Some-clause-right : goal.returns-in-Some-clause-right
 returns-in-Some-clause-right g c = λ salt plain h.
