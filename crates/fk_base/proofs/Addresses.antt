@@ -7,9 +7,9 @@ use Rattle.std.proofs.lemmas.Fmt.{decimal_injective}
 use Rattle.std.proofs.lemmas.List.{append_cancel_left}
 use Rattle.std.proofs.lemmas.Nat.{be_bytes_4}
 use Rattle.fk_base.specs.declared.address.Ip4.{Ip4}
-use Rattle.fk_base.specs.Decimal.{IsNumberText}
-use Rattle.fk_base.specs.Address.{IsDottedByte, IsIpText, ip_text}
-use Rattle.fk_base.specs.Shape.{IsLongestFront, IsPartAt, IsPartFault, IsRestFault}
+use Rattle.fk_base.specs.Address.{IsIpText, ip_text}
+use Rattle.fk_base.specs.Shape.{IsLongestFront}
+use Rattle.fk_base.specs.Private.{IsDottedByte, IsNumberText, IsPartAt, IsPartFault, IsRestFault}
 use Rattle.fk_base.proofs.Fronts.{Then, Then-stop, Then-go, IsLongestFront-same}
 use Rattle.fk_base.proofs.DottedBytes.{dotted_bytes_apart, same_numbers}
 

@@ -5,9 +5,8 @@ use Rattle.std.specs.Fmt.{decimal}
 use Rattle.std.proofs.lemmas.Bool.{cases_lt, cases_order}
 use Rattle.std.proofs.lemmas.Fmt.{decimal_nonempty, length-decimal-le}
 use Rattle.std.proofs.lemmas.List.{append-nil, take-append-drop, take_at, get_or_at, get_or_append_left, get_or-take, length-take-le, take_rest}
-use Rattle.fk_base.specs.Decimal.{IsNumberText, IsNumberFront}
-use Rattle.fk_base.specs.Address.{IsDottedByte}
-use Rattle.fk_base.specs.Shape.{CanBegin, IsLongestFront, IsPartFault}
+use Rattle.fk_base.specs.Shape.{CanBegin, IsLongestFront}
+use Rattle.fk_base.specs.Private.{IsDottedByte, IsNumberFront, IsNumberText, IsPartFault}
 use Rattle.fk_base.proofs.Numerals.{digit_at, digits_of_decimal}
 use Rattle.fk_base.proofs.Fronts.{IsPrefixFree, split_longer}
 

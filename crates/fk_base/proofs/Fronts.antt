@@ -2,7 +2,8 @@
 use Rattle.std.proofs.Common.{◌≡◌, ℕ, suc, ◌+◌, ◌-◌, ◌<◌, ◌≤◌, List, [], ◌∷◌, ◌++◌, length, take, drop, inl, inr, refl, sym, ◌∙◌, ap, subst, arith, length-append, append_assoc}
 use Rattle.std.proofs.lemmas.Bool.{cases_lt}
 use Rattle.std.proofs.lemmas.List.{append_cancel_left, append-nil, take-append-drop, take-take, length-take-le, take_all, take_rest}
-use Rattle.fk_base.specs.Shape.{CanBegin, IsLongestFront, IsPartFault, IsRestFault}
+use Rattle.fk_base.specs.Shape.{CanBegin, IsLongestFront}
+use Rattle.fk_base.specs.Private.{IsPartFault, IsRestFault}
 
 -- of two fronts of one text the shorter is a front of the longer
 pub split_longer : (xs ys u w : List ℕ) → xs ++ u ≡ ys ++ w → length xs ≤ length ys →

@@ -5,8 +5,9 @@ use Rattle.std.specs.Fmt.{decimal}
 use Rattle.std.proofs.lemmas.Bool.{cases_lt}
 use Rattle.std.proofs.lemmas.Fmt.{decimal_digit, decimal_step, decimal_nonempty, first_decimal}
 use Rattle.std.proofs.lemmas.List.{append-nil, take_more, take_at, get_or_at, take_rest}
-use Rattle.fk_base.specs.Decimal.{decimal_value, IsNumberText, IsNumberFront, first_non_digit}
-use Rattle.fk_base.specs.Shape.{CanBegin, IsLongestFront, IsRestFault}
+use Rattle.fk_base.specs.Decimal.{decimal_value, first_non_digit}
+use Rattle.fk_base.specs.Shape.{CanBegin, IsLongestFront}
+use Rattle.fk_base.specs.Private.{IsNumberFront, IsNumberText, IsRestFault}
 use Rattle.fk_base.proofs.Numerals.{decimal_value-decimal, digits_of_decimal, digit_at, value_more, value_front, front_of_decimal, only_zero}
 use Rattle.fk_base.proofs.Fronts.{longest_from_dead, wrong_from_longest, IsRestFault-slice}
 

@@ -1,5 +1,5 @@
 -- The text of an address: its four bytes in decimal, joined by dots.
-use Rattle.std.specs.Prelude.{◌≡◌, ℕ, ◌<◌, ◌^◌, List, [], ◌∷◌, ◌++◌, map}
+use Rattle.std.specs.Prelude.{◌≡◌, ℕ, ◌<◌, ◌^◌, List, map}
 use Rattle.std.specs.Int.{w32, to_be_bytes}
 use Rattle.std.specs.List.{join_with_byte}
 use Rattle.std.specs.Fmt.{decimal}
@@ -12,7 +12,3 @@ ip_text ip = join_with_byte 46 (map decimal (to_be_bytes w32 ip.0))
 -- the text is that of an address
 abbrev pub IsIpText : List ℕ → Type 0
 IsIpText text = (ip : Ip4) × (ip.0 < 2 ^ 32) × (text ≡ ip_text ip)
-
--- the text is that of a byte and the dot behind it
-abbrev pub IsDottedByte : List ℕ → Type 0
-IsDottedByte text = (byte : ℕ) × (byte < 2 ^ 8) × (text ≡ decimal byte ++ 46 ∷ [])

@@ -1,10 +1,8 @@
 -- Numbers in decimal: digits alone, with no sign, and no zero in front of another digit.
-use Rattle.std.specs.Prelude.{◌≡◌, ◌≤◌, take, ℕ, Bool, not, ◌&&◌, List, length, Option, Some, None, if◌then◌else◌, nat_lt, ◌==◌, slice_index}
+use Rattle.std.specs.Prelude.{ℕ, Bool, not, ◌&&◌, List, length, Option, Some, None, if◌then◌else◌, nat_lt, ◌==◌, slice_index}
 use Rattle.std.specs.List.{position}
 use Rattle.std.specs.Char.{is_ascii_digit}
-use Rattle.std.specs.Fmt.{decimal}
 use Rattle.std.specs.Str.Parse.{digits_value}
-use Rattle.fk_base.specs.Shape.{IsLongestFront}
 use Rattle.fk_base.specs.declared.decimal.NumFault.{NumFault}
 use Rattle.fk_base.specs.declared.decimal.NumFault.TheVariants.{Empty, NotDigit, LeadingZero, TooLarge}
 
@@ -31,14 +29,3 @@ digits_fault limit text None =
 abbrev pub first_num_fault : ℕ → List ℕ → Option NumFault
 first_num_fault limit text =
     if length text == 0 then Some Empty else digits_fault limit text (first_non_digit text)
-
--- the text is that of a number from `least` to `most`
-abbrev pub IsNumberText : ℕ → ℕ → List ℕ → Type 0
-IsNumberText least most text = (n : ℕ) × (least ≤ n) × (n ≤ most) × (text ≡ decimal n)
-
--- the text's longest front that can begin a number from `least` to `most` is the text of such a number
-pub record IsNumberFront (least most : ℕ) (text : List ℕ) (value len : ℕ) : Type 0 where
-  pub low : least ≤ value
-  pub high : value ≤ most
-  pub digits : take len text ≡ decimal value
-  pub front : IsLongestFront (IsNumberText least most) text len

@@ -1,8 +1,9 @@
 ghost use Rattle.std.specs.Prelude.{◌≡◌, ◌+◌, ◌<◌, ◌≤◌, ◌^◌, [], ◌∷◌, ◌++◌, IfErr, IfOk, OnErr, OnOk, length};
 ghost use Rattle.std.specs.Fmt.{decimal};
 ghost use Rattle.fk_base.specs.declared.address.Ip4.{Ip4};
-ghost use Rattle.fk_base.specs.Address.{IsDottedByte, IsIpText, ip_text};
-ghost use Rattle.fk_base.specs.Shape.{IsLongestFront, IsPartAt, IsPartFault};
+ghost use Rattle.fk_base.specs.Address.{IsIpText, ip_text};
+ghost use Rattle.fk_base.specs.Shape.{IsLongestFront};
+ghost use Rattle.fk_base.specs.Private.{IsDottedByte, IsPartAt, IsPartFault};
 
 use crate::number_front::{last_number, number_front};
 use crate::short_text::{SHORT_TEXT_ROOM, ShortText};

@@ -49,7 +49,7 @@ impl Bytes {
         Ok(())
     }
 
-    /// Takes all bytes out, and keeps the room.
+    /// Takes all bytes out.
     pub fn clear(&mut self)
         ensures { self.new ≡ [] }
     {
@@ -62,7 +62,7 @@ impl From<Vec<u8>> for Bytes {
 
     ghost from_gives = { λ v b. b ≡ v.items };
 
-    /// The bytes of a `Vec`, with its room: nothing is copied.
+    /// The bytes of a `Vec`. It takes no memory.
     fn from(items: Vec<u8>) -> Self {
         Bytes { items }
     }

@@ -109,11 +109,21 @@ mod tests {
         put_decimal(u64::MAX, &mut out)?;
         put_decimal(0, &mut out)?;
         assert_eq!(rt; out.as_slice(), b"at 184467440737095516150".as_slice());
-        assert_eq!(rt; read_decimal(b"18446744073709551615"), Ok(u64::MAX));
-        assert_eq!(rt;
-            read_decimal(b"18446744073709551616"),
-            Err(NumFault::TooLarge)
-        );
+        let rows = [
+            (b"".as_slice(), Err(NumFault::Empty)),
+            (b"1x".as_slice(), Err(NumFault::NotDigit(1))),
+            (b"01".as_slice(), Err(NumFault::LeadingZero)),
+            (b"01x".as_slice(), Err(NumFault::NotDigit(2))),
+            (b"0".as_slice(), Ok(0)),
+            (b"18446744073709551615".as_slice(), Ok(u64::MAX)),
+            (
+                b"18446744073709551616".as_slice(),
+                Err(NumFault::TooLarge),
+            ),
+        ];
+        for (text, answer) in rows {
+            assert_eq!(rt; read_decimal(text), answer);
+        }
         assert_eq!(rt;
             read_moment(b"999999999999").map(Moment::get),
             Ok(999999999999)

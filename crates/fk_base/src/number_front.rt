@@ -1,8 +1,8 @@
 ghost use Rattle.std.specs.Prelude.{◌≡◌, ◌+◌, ◌-◌, ◌*◌, ◌<◌, ◌≤◌, IfErr, IfNone, IfOk, IfSome, SomeIff, drop, length};
 ghost use Rattle.std.specs.Fmt.{decimal};
 ghost use Rattle.std.specs.Int.{IsInRange};
-ghost use Rattle.fk_base.specs.Decimal.{IsNumberFront, IsNumberText};
-ghost use Rattle.fk_base.specs.Shape.{IsLongestFront, IsRestFault};
+ghost use Rattle.fk_base.specs.Shape.{IsLongestFront};
+ghost use Rattle.fk_base.specs.Private.{IsNumberFront, IsNumberText, IsRestFault};
 
 use crate::ShapeFault;
 use crate::decimal::push_digit;

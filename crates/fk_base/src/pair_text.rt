@@ -1,7 +1,8 @@
-ghost use Rattle.std.specs.Prelude.{◌≡◌, ◌<◌, ◌^◌, ◌++◌, IfErr, IfOk, OnErr, OnOk};
+ghost use Rattle.std.specs.Prelude.{◌≡◌, ◌<◌, ◌^◌, ◌++◌, codes, IfErr, IfOk, OnErr, OnOk};
 ghost use Rattle.fk_base.specs.declared.pair.Pair.{Pair};
-ghost use Rattle.fk_base.specs.PairText.{IsPairText, IsProtoText, pair_text, proto_text};
-ghost use Rattle.fk_base.specs.Shape.{IsCommonFront, IsLongestFront, IsPartAt, IsPartFault};
+ghost use Rattle.fk_base.specs.PairText.{IsPairText, pair_text, proto_name};
+ghost use Rattle.fk_base.specs.Shape.{IsLongestFront};
+ghost use Rattle.fk_base.specs.Private.{IsCommonFront, IsPartAt, IsPartFault, IsProtoText};
 
 use crate::number_front::last_number;
 use crate::short_text::ShortText;
@@ -31,7 +32,7 @@ pub fn put_pair(pair: Pair, out: &mut Bytes) -> Result<(), NoMemory>
 
 /// The protocol that the text begins with, and the place past the slash behind it.
 fn proto_before_slash(text: &[u8]) -> Result<(Proto, usize), ShapeFault>
-    ensures ok { IfOk result (λ p. IsPartAt (proto_text p.0) text.now 0 p.1) }
+    ensures ok { IfOk result (λ p. IsPartAt (proto_name p.0 ++ codes "/") text.now 0 p.1) }
     ensures err { IfErr result (λ fault. IsPartFault IsProtoText text.now 0 fault.0) }
 {
     let tcp = common_front(text, proto_bytes(Proto::Tcp));
@@ -47,7 +48,7 @@ fn proto_before_slash(text: &[u8]) -> Result<(Proto, usize), ShapeFault>
 
 /// The protocol's name and a slash.
 fn proto_bytes(proto: Proto) -> &'static [u8]
-    ensures { result.now ≡ proto_text proto }
+    ensures { result.now ≡ proto_name proto ++ codes "/" }
 {
     match proto {
         Proto::Tcp => b"tcp/",

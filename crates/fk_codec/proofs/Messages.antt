@@ -15,12 +15,12 @@ use Rattle.fk_base.specs.declared.pair.Pair.{Pair}
 use Rattle.fk_base.specs.declared.pair.Proto.{Proto}
 use Rattle.fk_base.specs.declared.pair.Proto.TheVariants.{Tcp, Udp}
 use Rattle.fk_base.specs.Address.{ip_text}
-use Rattle.fk_base.specs.PairText.{pair_text, proto_text}
+use Rattle.fk_base.specs.PairText.{pair_text, proto_name}
 use Rattle.fk_base.proofs.Addresses.{ip_text-from_be_bytes}
 use Rattle.fk_base.specs.Bytes.{IsBytes}
 use Rattle.fk_text.specs.Text.{text_of}
 use Rattle.fk_codec.specs.Fields.{message_text}
-use Rattle.fk_codec.specs.Cutting.{parts_at, number_in, ip_of, ip_of_parts, ip_in, proto_name, proto_in, pair_of, pair_of_parts, pair_in, asked_of, asked_of_parts, bytes_in, message_in}
+use Rattle.fk_codec.specs.Cutting.{parts_at, number_in, ip_of, ip_of_parts, ip_in, proto_in, pair_of, pair_of_parts, pair_in, asked_of, asked_of_parts, bytes_in, message_in}
 use Rattle.fk_codec.proofs.Joined.{Lacks, parts_at-join, join-parts_at, digit_apart, All-join, All-decimal, Lacks-decimal, Lacks-from_test}
 use Rattle.fk_codec.proofs.Words.{number_in_some, number_in-decimal, bytes_in_some, bytes_in-text_of, IsBytes-All}
 
@@ -107,7 +107,7 @@ proto_in-proto_name : (proto : Proto) → proto_in (proto_name proto) ≡ Some p
 proto_in-proto_name Tcp = refl
 proto_in-proto_name Udp = refl
 
-name_and_slash : (proto : Proto) (port : List ℕ) → proto_text proto ++ port ≡ proto_name proto ++ 47 ∷ port
+name_and_slash : (proto : Proto) (port : List ℕ) → proto_name proto ++ codes "/" ++ port ≡ proto_name proto ++ 47 ∷ port
 name_and_slash Tcp port = refl
 name_and_slash Udp port = refl
 
@@ -165,19 +165,19 @@ All-ip_text P digit dot ip =
     All-join P 46 dot (decimal (n / 16777216 % 256) ∷ decimal (n / 65536 % 256) ∷ decimal (n / 256 % 256) ∷ decimal (n % 256) ∷ [])
     (each _ (omega arith), (each _ (omega arith), (each _ (omega arith), (each _ (omega arith), tt))))
 
-All-pair_text : (P : ℕ → Type 0) → ((x : ℕ) → IsInRange 48 57 x → P x) → ((proto : Proto) → All P (proto_text proto))
+All-pair_text : (P : ℕ → Type 0) → ((x : ℕ) → IsInRange 48 57 x → P x) → ((proto : Proto) → All P (proto_name proto ++ codes "/"))
     → (pair : Pair) → pair.port < 2 ^ 16 → All P (pair_text pair)
 All-pair_text P digit name pair small =
-    All-append P (proto_text pair.proto) (decimal pair.port) (name pair.proto) (All-decimal P digit pair.port (omega arith))
+    All-append P (proto_name pair.proto ++ codes "/") (decimal pair.port) (name pair.proto) (All-decimal P digit pair.port (omega arith))
 
-name_lacks_comma : (proto : Proto) → Lacks 44 (proto_text proto)
+name_lacks_comma : (proto : Proto) → Lacks 44 (proto_name proto ++ codes "/")
 name_lacks_comma Tcp = Lacks-from_test 44 (λ x. not (x == 44)) (codes "tcp/") (λ x is. not-true (x == 44) is) refl
 name_lacks_comma Udp = Lacks-from_test 44 (λ x. not (x == 44)) (codes "udp/") (λ x is. not-true (x == 44) is) refl
 
 pub Lacks-pair_text : (pair : Pair) → pair.port < 2 ^ 16 → Lacks 44 (pair_text pair)
 Lacks-pair_text pair small = All-pair_text (λ x. (x == 44) ≡ false) (λ x is. digit_apart 44 x (inr (omega arith)) is) name_lacks_comma pair small
 
-name_in_bytes : (proto : Proto) → All (λ x. x < 256) (proto_text proto)
+name_in_bytes : (proto : Proto) → All (λ x. x < 256) (proto_name proto ++ codes "/")
 name_in_bytes Tcp = All-from_recursion (λ x. x < 256) (codes "tcp/") (lit< tt, (lit< tt, (lit< tt, (lit< tt, tt))))
 name_in_bytes Udp = All-from_recursion (λ x. x < 256) (codes "udp/") (lit< tt, (lit< tt, (lit< tt, (lit< tt, tt))))
 

@@ -1,5 +1,5 @@
 -- The fields that a plaintext gives, found by cutting it. By `plaintext_law` they are exactly the fields that spell it.
-use Rattle.std.specs.Prelude.{ℕ, suc, Bool, ◌&&◌, ◌==◌, if◌then◌else◌, List, [], ◌∷◌, length, codes, Option, Some, None}
+use Rattle.std.specs.Prelude.{ℕ, suc, Bool, ◌&&◌, ◌==◌, if◌then◌else◌, List, [], ◌∷◌, length, Option, Some, None}
 use Rattle.std.proofs.Common.{zero-le, suc-le-suc}
 use Rattle.std.specs.List.{slice_split, join_with_byte, find}
 use Rattle.std.specs.Option.{option_and_then}
@@ -15,6 +15,7 @@ use Rattle.fk_base.specs.declared.hash_kind.HashKind.TheVariants.{Md5, Sha1, Sha
 use Rattle.fk_base.specs.declared.decimal.NumFault.{NumFault}
 use Rattle.fk_base.specs.Decimal.{decimal_value, first_num_fault}
 use Rattle.fk_base.specs.HashKind.{text_len}
+use Rattle.fk_base.specs.PairText.{proto_name}
 use Rattle.base64.specs.GeneralPurpose.{decoded_of}
 use Rattle.base64.specs.Engines.{standard_no_pad}
 use Rattle.fk_codec.specs.Fields.{Fields, is_rand, is_user, is_version, access_type, digest_text}
@@ -53,11 +54,6 @@ ip_of_parts _ = None
 -- the address that a text writes
 unfoldable pub ip_in : List ℕ → Option Ip4
 ip_in text = ip_of_parts (parts_at 46 text)
-
--- the name of a protocol
-abbrev pub proto_name : Proto → List ℕ
-proto_name Tcp = codes "tcp"
-proto_name Udp = codes "udp"
 
 -- the protocol that a word names
 abbrev pub proto_in : List ℕ → Option Proto

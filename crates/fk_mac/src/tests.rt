@@ -70,13 +70,16 @@ fn known_codes(rt: HostRuntime) -> Result<(), Fail> {
             verify(kind, key, head, tail, text.as_slice()),
             "the right text by {kind:?}"
         );
-        let mut changed = text.as_slice().to_vec(rt.alloc())?;
-        assert!(rt; !changed.is_empty());
-        changed[0] ^= 1;
-        assert!(rt;
-            !verify(kind, key, head, tail, changed.as_slice()),
-            "a changed text by {kind:?}"
-        );
+        // The first letter, a middle one and the last, each changed into another with which it is still base64.
+        for at in [0, kind.text_len() / 2, kind.text_len() - 1] {
+            let mut changed = text.as_slice().to_vec(rt.alloc())?;
+            assert!(rt; at < changed.len());
+            changed[at] = if changed[at] == b'A' { b'Q' } else { b'A' };
+            assert!(rt;
+                !verify(kind, key, head, tail, changed.as_slice()),
+                "the letter at {at} changed, by {kind:?}"
+            );
+        }
     }
     let text = hash_text(rt.alloc(), HashKind::Sha256, b"abc")?;
     assert_eq!(rt;

@@ -9,7 +9,8 @@ use Rattle.base64.specs.declared.decode.DecodeError.{DecodeError}
 use Rattle.fk_text.specs.declared.text_fault.TextFault.{TextFault}
 use Rattle.fk_text.specs.declared.text_fault.TextFault.TheVariants.{BadByte, BadLength, LooseBits, NoMemory}
 use Rattle.fk_base.specs.Bytes.{IsBytes}
-use Rattle.fk_text.specs.Text.{IsText, text_of}
+use Rattle.fk_text.specs.Private.{IsText}
+use Rattle.fk_text.specs.Text.{text_of}
 use Rattle.fk_text.specs.TextFault.{IsLetter, letter_number, HasZeroRest, FirstTextFault}
 use Rattle.fk_text.proofs.Letters.{letter_number_below, IsLetter_unless}
 use Rattle.fk_text.proofs.Symbols.{length-text_of}

@@ -4,7 +4,8 @@ use Rattle.std.proofs.lemmas.List.{take_at}
 use Rattle.base64.specs.GeneralPurpose.{encode_of}
 use Rattle.base64.specs.Engines.{standard_no_pad}
 use Rattle.fk_base.specs.Bytes.{IsBytes}
-use Rattle.fk_text.specs.Text.{IsText, letter_of, text_of}
+use Rattle.fk_text.specs.Private.{IsText}
+use Rattle.fk_text.specs.Text.{letter_of, text_of}
 use Rattle.fk_text.specs.TextFault.{IsLetter, letter_number, HasZeroRest}
 use Rattle.fk_text.proofs.Letters.{letter_number-letter_of, number_of_letter, letter_from_number, letter_number_below}
 use Rattle.fk_text.proofs.Symbols.{numbers_of, text_of-numbers, text_of-encode_of, length-text_of}

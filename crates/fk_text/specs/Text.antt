@@ -1,6 +1,5 @@
 -- Base64 without padding (RFC 4648, section 4), cut from one list of bits.
-use Rattle.std.specs.Prelude.{◌≡◌, ℕ, ◌+◌, ◌*◌, ◌/◌, ◌%◌, List, [], ◌∷◌, ◌++◌, map, codes, slice_index}
-use Rattle.fk_base.specs.Bytes.{IsBytes}
+use Rattle.std.specs.Prelude.{ℕ, ◌+◌, ◌*◌, ◌/◌, ◌%◌, List, [], ◌∷◌, ◌++◌, map, codes, slice_index}
 
 -- the 64 letters, in the order of their numbers (RFC 4648, table 1)
 abbrev pub alphabet : List ℕ
@@ -36,7 +35,3 @@ group_numbers (a ∷ b ∷ c ∷ d ∷ e ∷ f ∷ bits) = six_number a b c d e 
 -- the text of a list of bytes: the letter of each group of six of its bits
 unfoldable pub text_of : List ℕ → List ℕ
 text_of bytes = map letter_of (group_numbers (bits_of bytes))
-
--- the text of a list of bytes
-abbrev pub IsText : List ℕ → Type 0
-IsText text = (bytes : List ℕ) × IsBytes bytes × (text ≡ text_of bytes)

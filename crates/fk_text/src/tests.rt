@@ -39,6 +39,10 @@ fn faulty_texts(rt: HostRuntime) {
             b"ungWv48Bz+pBQUDeXa4iI7ADYaOWF3qctBD/YfIAFa0=".as_slice(),
             TextFault::BadByte(43),
         ),
+        (
+            b"U2FsdGVkX18AAQIDBAUGBw==".as_slice(),
+            TextFault::BadByte(22),
+        ),
         (b"A".as_slice(), TextFault::BadLength),
         (b"Zh".as_slice(), TextFault::LooseBits),
         (b"Zm-v".as_slice(), TextFault::BadByte(2)),

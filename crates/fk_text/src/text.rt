@@ -1,6 +1,7 @@
 ghost use Rattle.std.specs.Prelude.{◌≡◌, ℕ, ◌⊎◌, ◌↔◌, ◌≤◌, ◌+◌, ◌*◌, ◌/◌, List, length, IsTrue, IfOk, IfErr, MatchOption, MatchResult};
 ghost use Rattle.fk_base.specs.Bytes.{IsBytes};
-ghost use Rattle.fk_text.specs.Text.{text_of, IsText};
+ghost use Rattle.fk_text.specs.Private.{IsText};
+ghost use Rattle.fk_text.specs.Text.{text_of};
 ghost use Rattle.fk_text.specs.TextFault.{FirstTextFault};
 
 use crate::TextFault;
@@ -32,8 +33,7 @@ pub fn take_text(alloc: Global, text: &[u8]) -> Result<Bytes, TextFault>
     }
 }
 
-/// Whether `text` is the text of at most 64 bytes. It takes no memory, and goes over all letters wherever the first
-/// wrong one is.
+/// Whether `text` is the text of at most 64 bytes. It takes no memory.
 pub fn is_text_of(text: &[u8], bytes: &[u8]) -> bool
     requires { length bytes.now ≤ 64 }
     ensures { IsTrue result ↔ (text.now ≡ text_of bytes.now) }

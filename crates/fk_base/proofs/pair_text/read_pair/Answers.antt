@@ -1,7 +1,7 @@
 use Rattle.std.proofs.Common.{ℕ, ◌∙◌, ◌++◌, List, sym, ap, arith, Ok}
 use Rattle.std.proofs.lemmas.Result.{err_from_is_err_and}
 use Rattle.fk_base.specs.declared.pair.Pair.{Pair}
-use Rattle.fk_base.specs.PairText.{proto_text}
+use Rattle.fk_base.proofs.Pairs.{slashed}
 use Rattle.fk_base.proofs.Pairs.{fault_in_proto, fault_in_port, pair_text-injective}
 use Rattle.fk_base.proofs.pair_text.read_pair.Goals as goal
 
@@ -20,5 +20,5 @@ returns-clause-every c = λ pair small is.
     let port = c.in_ok-port.ensures.ok in
     let high = port.1 in
     let mine : Pair = record { proto = c.in_ok-proto.proto; port = c.in_ok-port.field-0; has_port = _ } in
-    let whole = c.in_ok-proto.ensures.ok.split ∙ ap (λ (x : List ℕ). proto_text c.in_ok-proto.proto ++ x) port.2 in
+    let whole = c.in_ok-proto.ensures.ok.split ∙ ap (λ (x : List ℕ). slashed c.in_ok-proto.proto ++ x) port.2 in
     ap (λ (x : Pair). Ok x) (pair_text-injective mine pair (omega arith) small (sym whole ∙ is))
