@@ -5,7 +5,7 @@ use Rattle.fk_host.proofs.memory_source.MemSourceSource.read.Goals as goal
 pub returns-clause-taken : goal.returns-clause-taken
 returns-clause-taken c =
     rw (← c.self.view_is, ← c.deref.ensures.value)
-    (copied-taken c.deref.result.now c.args.buf.now c.copy_from_slice.new.self c.self.inside.given c.min-count.result
+    (copied-taken c.deref.result.now _ c.copy_from_slice.new.self c.self.inside.given c.min-count.result
     c.copy_from_slice.ensures.after (omega arith))
 
 pub returns-clause-end : goal.returns-clause-end
