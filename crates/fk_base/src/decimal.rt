@@ -116,10 +116,7 @@ mod tests {
             (b"01x".as_slice(), Err(NumFault::NotDigit(2))),
             (b"0".as_slice(), Ok(0)),
             (b"18446744073709551615".as_slice(), Ok(u64::MAX)),
-            (
-                b"18446744073709551616".as_slice(),
-                Err(NumFault::TooLarge),
-            ),
+            (b"18446744073709551616".as_slice(), Err(NumFault::TooLarge)),
         ];
         for (text, answer) in rows {
             assert_eq!(rt; read_decimal(text), answer);
