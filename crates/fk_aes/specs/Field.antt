@@ -1,6 +1,6 @@
 -- Bytes as elements of a finite field (FIPS 197, section 4). The bits of a byte are the coefficients of a polynomial of
 -- degree below 8, and products are taken modulo x^8 + x^4 + x^3 + x + 1. Nothing here reads a table.
-use Rattle.std.specs.Prelude.{ℕ, zero, suc, ◌≡◌, ◌<◌, ◌*◌, ◌/◌, ◌%◌, ◌==◌, List, [], ◌∷◌, Bool, true, false, bit_xor, nat_lt, length, slice_index, if◌then◌else◌}
+use Rattle.std.specs.Prelude.{ℕ, zero, suc, ◌*◌, ◌/◌, ◌%◌, ◌==◌, List, [], ◌∷◌, Bool, true, false, bit_xor, nat_lt, if◌then◌else◌}
 
 infixl 61 ◌⊕◌
 infixl 62 ◌•◌

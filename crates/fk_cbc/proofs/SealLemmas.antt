@@ -1,6 +1,6 @@
 -- Sealed bytes from their parts and back, and which bytes have no plaintext.
 use Rattle.std.proofs.Common.{◌≡◌, ℕ, ◌+◌, ◌-◌, ◌*◌, ◌/◌, ◌%◌, ◌<◌, ◌≤◌, List, [], ◌++◌, length, take, drop, replicate, refl, sym, ap, ◌∙◌, subst, arith, append_assoc, inl, inr}
-use Rattle.std.proofs.lemmas.List.{drop-drop, drop_at, drop_all, length-append, length-drop, length-replicate, length-take, append-nil, take-append-drop, take-replicate, take_at, take_rest}
+use Rattle.std.proofs.lemmas.List.{drop-drop, drop_at, drop_all, length-append, length-drop, length-replicate, append-nil, take-append-drop, take-replicate, take_at, take_rest}
 use borrow.Rule.Slice.PartMut.{put_mid}
 use Rattle.fk_base.specs.Bytes.{IsBytes, HasBytes}
 use Rattle.fk_cbc.specs.Chain.{Encrypts}
