@@ -7,7 +7,8 @@ use Rattle.fk_host.proofs.Streams.{Takes-append}
 use Rattle.fk_input.specs.declared.line_reader.NextLine.{NextLine}
 use Rattle.fk_input.specs.declared.line_reader.NextLine.TheVariants as answer
 use Rattle.fk_input.specs.Lines.{is_fed, line_limit, input_limit}
-use Rattle.fk_input.specs.Reading.{Reading, rest, TakesLine, TakesLongLine, PassesLimit, Says, UsesUp, Places}
+use Rattle.fk_input.specs.Private.{UsesUp, Places}
+use Rattle.fk_input.specs.Reading.{Reading, rest, TakesLine, TakesLongLine, PassesLimit, Says}
 use Rattle.fk_input.proofs.Pieces.{pieces-unfed, IsPiece-push, pieces-fed, content-unfed, content-fed, is_fed-fed, is_fed-push}
 
 -- the line holds the bytes that were used up since the call began
@@ -65,7 +66,7 @@ says-placed answer.Line old now mid new b before left_now left unended w u ended
       last = λ h. absurd (cc);
     })
 says-placed answer.End old now mid new b before left_now left unended w u ended p = absurd p
-says-placed answer.Bad old now mid new b before left_now left unended w u ended p =
+says-placed answer.LongLine old now mid new b before left_now left unended w u ended p =
     let len = length_push now.line b in
     let full : length now.line ≡ line_limit = ap length (sym u.2) ∙ p.2 in
     subst (λ (r : Reading). TakesLongLine old r before (rest r left)) (sym p.3) (record {
@@ -79,7 +80,7 @@ says-placed answer.Bad old now mid new b before left_now left unended w u ended 
       offset = omega (arith, u.1, w.offset);
       ended = ended;
     })
-says-placed answer.TooLong old now mid new b before left_now left unended w u ended p =
+says-placed answer.LongInput old now mid new b before left_now left unended w u ended p =
     let len = length_push now.line b in
     subst (λ (r : Reading). PassesLimit old r before (rest r left)) (sym p.1) (record {
       unended = unended;

@@ -1,6 +1,6 @@
 -- From the answers of a reader to what its input says.
 use Rattle.std.proofs.Common.{◌≡◌, ℕ, ◌+◌, ◌<◌, ◌≤◌, true, false, List, [], ◌∷◌, ◌++◌, length, Option, Some, None, IfSome, refl, sym, ap, ◌∙◌, subst, inl, inr, ⊎_elim, arith, append_assoc, append-nil, length-append}
-use Rattle.std.specs.List.{concat, filter}
+use Rattle.std.specs.List.{concat, filter, AllByRecursion}
 use Rattle.std.proofs.lemmas.Bool.{cases_Bool, ltb-false, le-ltb, lt-ltb}
 use Rattle.std.proofs.lemmas.List.Folds.{concat-append}
 use Rattle.std.proofs.lemmas.List.Elements.{filter-append}
@@ -13,8 +13,8 @@ use Rattle.fk_input.specs.declared.line_reader.NextLine.TheVariants as answer
 use Rattle.fk_input.specs.Lines.{pieces, is_fed, content, passes_limit, line_limit, input_limit, Reads, end, line, bad, long}
 use Rattle.fk_input.specs.Reading.{Reading, rest, TakesLine, FindsEnd, TakesLongLine, PassesLimit, BreaksOff, IsBounded, Says}
 use Rattle.fk_input.specs.Progress.{HasRead}
-use Rattle.fk_input.proofs.Pieces.{pieces-unfed, pieces-piece, length-piece, content-append, begins-unfed, begins-piece}
-use Rattle.fk_input.proofs.Readings.{Reads-append, length-Reads}
+use Rattle.fk_input.proofs.Pieces.{pieces-unfed, content-unfed, pieces-piece, length-piece, content-append, begins-unfed, begins-piece}
+use Rattle.fk_input.proofs.Readings.{Reads-append, length-Reads, short-Reads}
 
 takes-nothing : (left : Option (List ℕ)) → Takes [] left (rest (record { pending = []; line = []; offset = 0; ended = false }) left)
 takes-nothing None = tt
@@ -204,22 +204,41 @@ rest-empty : (reader : Reading) (left : Option (List ℕ)) → reader.pending �
 rest-empty reader None none = refl
 rest-empty reader (Some bytes) none = ap (λ v. Some (v ++ bytes)) none
 
--- At a failure of the source the lines that were read are those whose line feed was taken.
+all-append : (P : List ℕ → Type 0) (xs ys : List (List ℕ)) → AllByRecursion P xs → AllByRecursion P ys → AllByRecursion P (xs ++ ys)
+all-append P [] ys all more = more
+all-append P (x ∷ xs) ys all more = (all.0, all-append P xs ys all.1 more)
+
+short-front : (front : List ℕ) → is_fed front ≡ false → length front ≤ line_limit → AllByRecursion (λ piece. length (content piece) ≤ line_limit) (pieces front)
+short-front [] unfed short = tt
+short-front (b ∷ bs) unfed short =
+    rw (pieces-unfed (b ∷ bs) unfed (omega arith), content-unfed (b ∷ bs) unfed) (short, tt)
+
+-- At a failure of the source the lines that were read are those whose line feed was taken, and nothing that was taken breaks a
+-- rule.
 pub Reads-broken : {T : Type 0} (IsLine : List ℕ → T → Type 0) (start before left : Option (List ℕ)) (old new : Reading) (values : List T)
     → HasRead IsLine start before old values
     → BreaksOff old new before (rest new left)
     → (front : List ℕ) × Takes front start left × Reads IsLine 0 1 (filter is_fed (pieces front)) values None
+    × AllByRecursion (λ piece. length (content piece) ≤ line_limit) (pieces front) × (length front ≤ input_limit)
 Reads-broken {T} IsLine start before left old new values h b =
     let P : List (List ℕ) → Type 0 = λ ps. Reads {T = T} IsLine 0 1 ps values None in
+    let S : List (List ℕ) → Type 0 = λ ps. AllByRecursion (λ piece. length (content piece) ≤ line_limit) ps in
+    let apart : pieces (concat h.used ++ b.front) ≡ h.used ++ pieces b.front = h.apart b.unended b.front in
     let cut : filter is_fed (pieces (concat h.used ++ b.front)) ≡ h.used
-    = ap (filter is_fed) (h.apart b.unended b.front)
+    = ap (filter is_fed) apart
     ∙ (filter-append is_fed h.used (pieces b.front)
     ∙ (ap (λ v. v ++ filter is_fed (pieces b.front)) (h.fed b.unended)
     ∙ (ap (λ v. h.used ++ v) (none-fed b.front b.unfed) ∙ append-nil h.used))) in
     let taken : Takes (concat h.used ++ b.front) start left
     = subst (λ (o : Option (List ℕ)). Takes (concat h.used ++ b.front) start o) (rest-empty new left b.pending)
     (Takes-append (concat h.used) b.front start before (rest new left) h.taken b.taken) in
-    (concat h.used ++ b.front, taken, subst P (sym cut) h.reads)
+    (
+      concat h.used ++ b.front,
+      taken,
+      subst P (sym cut) h.reads,
+      subst S (sym apart) (all-append (λ piece. length (content piece) ≤ line_limit) h.used (pieces b.front) (short-Reads IsLine h.reads) (short-front b.front b.unfed b.short)),
+      omega (arith, length-append (concat h.used) b.front, h.offset, b.offset, b.within),
+    )
 
 takes-pending : (reader : Reading) (left : Option (List ℕ)) → Takes reader.pending (rest reader left) left
 takes-pending reader None = tt
@@ -240,9 +259,9 @@ Says-bounded IsLine answer.Line start before left old new values h t bound =
     bounded (concat h.used ++ t.piece) start left new (Takes-append (concat h.used) t.piece start before (rest new left) h.taken t.taken) (omega (arith, h.offset, t.offset, length-append (concat h.used) t.piece)) bound
 Says-bounded IsLine answer.End start before left old new values h t bound =
     bounded (concat h.used ++ []) start left new (Takes-append (concat h.used) [] start before (rest new left) h.taken t.nothing.2) (omega (arith, h.offset, t.offset, length-append (concat h.used) [])) bound
-Says-bounded IsLine answer.Bad start before left old new values h t bound =
+Says-bounded IsLine answer.LongLine start before left old new values h t bound =
     bounded (concat h.used ++ t.front) start left new (Takes-append (concat h.used) t.front start before (rest new left) h.taken t.taken) (omega (arith, h.offset, t.offset, length-append (concat h.used) t.front)) bound
-Says-bounded IsLine answer.TooLong start before left old new values h t bound =
+Says-bounded IsLine answer.LongInput start before left old new values h t bound =
     bounded (concat h.used ++ t.front) start left new (Takes-append (concat h.used) t.front start before (rest new left) h.taken t.taken) (omega (arith, h.offset, t.offset, length-append (concat h.used) t.front)) bound
 Says-bounded IsLine answer.Failed start before left old new values h t bound =
     bounded (concat h.used ++ t.front) start left new (Takes-append (concat h.used) t.front start before (rest new left) h.taken t.taken) (omega (arith, h.offset, t.offset, length-append (concat h.used) t.front)) bound

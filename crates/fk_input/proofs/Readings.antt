@@ -1,6 +1,6 @@
 -- What the lines of an input say: one reading at most, and one reading behind another.
 use Rattle.std.proofs.Common.{◌≡◌, ℕ, suc, ◌+◌, ◌≤◌, false, List, [], ◌∷◌, ◌++◌, length, Option, Some, None, refl, ap, subst, inl, inr, ⊎_elim, arith, length-append}
-use Rattle.std.specs.List.{concat}
+use Rattle.std.specs.List.{concat, AllByRecursion}
 use Rattle.fk_input.specs.declared.fault.Fault.{Fault}
 use Rattle.fk_input.specs.declared.fault.LineFault.TheVariants.{BadLine, TooLong}
 use Rattle.std.proofs.lemmas.Bool.{cases_Bool, cases_lt}
@@ -36,6 +36,14 @@ pub length-Reads : {T : Type 0} (IsLine : List ℕ → T → Type 0)
     → length values ≡ length ps
 length-Reads IsLine end = refl
 length-Reads IsLine (line within short is rest) = ap suc (length-Reads IsLine rest)
+
+-- in a reading without a fault no line is above its limit
+pub short-Reads : {T : Type 0} (IsLine : List ℕ → T → Type 0)
+    → {offset number : ℕ} {ps : List (List ℕ)} {values : List T}
+    → Reads IsLine offset number ps values None
+    → AllByRecursion (λ piece. length (content piece) ≤ line_limit) ps
+short-Reads IsLine end = tt
+short-Reads IsLine (line within short is rest) = (short, short-Reads IsLine rest)
 
 -- the same reading at an equal offset and number
 moved : {T : Type 0} (IsLine : List ℕ → T → Type 0) {ps : List (List ℕ)} {values : List T} {fault : Option Fault}

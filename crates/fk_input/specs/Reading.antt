@@ -1,6 +1,6 @@
 -- A reader of lines, and what a call of it takes from its input.
 use Rattle.std.specs.Prelude.{◌≡◌, ◌≢◌, ◌⊎◌, ℕ, ◌+◌, ◌<◌, ◌≤◌, Bool, true, false, List, [], ◌∷◌, ◌++◌, length, Option, Some, None, IfSome}
-use Rattle.fk_host.specs.Count.{Rose}
+use Rattle.fk_host.specs.Count.{counted}
 use Rattle.fk_host.specs.Stream.{Takes}
 use Rattle.fk_input.specs.declared.line_reader.NextLine.{NextLine}
 use Rattle.fk_input.specs.declared.line_reader.NextLine.TheVariants as answer
@@ -72,10 +72,13 @@ pub record PassesLimit (old new : Reading) (before after : Option (List ℕ)) : 
   pub offset : new.offset ≡ old.offset + length front
   pub ended : new.ended ≡ false
 
--- the source failed behind a front of the line, which is used up
+-- The source failed behind a front of the line, which is used up. No byte of it breaks a rule: neither the line nor the input is
+-- above its limit yet.
 pub record BreaksOff (old new : Reading) (before after : Option (List ℕ)) : Type 0 where
   pub unended : old.ended ≡ false
   pub front : List ℕ
+  pub short : length front ≤ line_limit
+  pub within : new.offset ≤ input_limit
   pub unfed : is_fed front ≡ false
   pub taken : Takes front before after
   pub pending : new.pending ≡ []
@@ -87,24 +90,11 @@ pub record BreaksOff (old new : Reading) (before after : Option (List ℕ)) : Ty
 abbrev pub Says : NextLine → Reading → Reading → Option (List ℕ) → Option (List ℕ) → Type 0
 Says answer.Line old new before after = TakesLine old new before after
 Says answer.End old new before after = FindsEnd old new before after
-Says answer.Bad old new before after = TakesLongLine old new before after
-Says answer.TooLong old new before after = PassesLimit old new before after
+Says answer.LongLine old new before after = TakesLongLine old new before after
+Says answer.LongInput old new before after = PassesLimit old new before after
 Says answer.Failed old new before after = BreaksOff old new before after
 
--- the source's count of faults rose where the answer is a fault of the source, and stayed otherwise
+-- a fault of the source is answered where its count has one fault more, and any other answer leaves the count as it is
 abbrev pub IsCaused : NextLine → ℕ → ℕ → Type 0
-IsCaused answer.Failed old new = Rose old new
+IsCaused answer.Failed old new = new ≡ counted old
 IsCaused _ old new = new ≡ old
-
--- the bytes of the piece were used up, and the line is as before
-abbrev pub UsesUp : List ℕ → Reading → Reading → Option (List ℕ) → Option (List ℕ) → Type 0
-UsesUp piece old new left_old left_new =
-    Takes piece (rest old left_old) (rest new left_new) × (new.offset ≡ old.offset + length piece) × (new.line ≡ old.line)
-
--- what becomes of the line with the byte that was used up last
-abbrev pub Places : Option NextLine → Reading → Reading → ℕ → Type 0
-Places None old new b = (old.offset ≤ input_limit) × (b ≢ 10) × (length old.line < line_limit) × (new ≡ record old { line = old.line ++ b ∷ [] })
-Places (Some answer.Line) old new b = (old.offset ≤ input_limit) × (b ≡ 10) × (new ≡ old)
-Places (Some answer.Bad) old new b = (old.offset ≤ input_limit) × (b ≢ 10) × (length old.line ≡ line_limit) × (new ≡ record old { line = [] })
-Places (Some answer.TooLong) old new b = (input_limit < old.offset) × (new ≡ record old { line = [] })
-Places (Some _) old new b = ⊥

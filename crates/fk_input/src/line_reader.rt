@@ -20,10 +20,11 @@ pub enum NextLine {
     /// There is none.
     End,
     /// It has more than 1600 bytes.
-    Bad,
+    LongLine,
     /// The input passes 67108864 bytes in it.
-    TooLong,
-    /// The source failed. The bytes of the line that had come are lost.
+    LongInput,
+    /// The source failed, before any byte that it gave showed a line or an input that is too long. The bytes of the line that had
+    /// come are lost.
     Failed,
 }
 
@@ -52,7 +53,8 @@ impl Model for LineReader {
 }
 
 impl LineReader {
-    ghost use Rattle.fk_input.specs.Reading.{rest, Says, IsCaused, UsesUp, Places, IsBounded};
+    ghost use Rattle.fk_input.specs.Private.{UsesUp, Places};
+    ghost use Rattle.fk_input.specs.Reading.{rest, Says, IsCaused, IsBounded};
 
     pub fn new() -> Self
         ensures { result ≡ record { pending = []; line = []; offset = 0; ended = false } }
@@ -84,7 +86,7 @@ impl LineReader {
             return NextLine::End;
         }
         if self.offset > MAX_INPUT {
-            return NextLine::TooLong;
+            return NextLine::LongInput;
         }
         loop {
             match self.next_byte(input) {
@@ -135,14 +137,14 @@ impl LineReader {
     {
         if self.offset > MAX_INPUT {
             self.len = 0;
-            return Some(NextLine::TooLong);
+            return Some(NextLine::LongInput);
         }
         if b == b'\n' {
             return Some(NextLine::Line);
         }
         if self.len == MAX_LINE {
             self.len = 0;
-            return Some(NextLine::Bad);
+            return Some(NextLine::LongLine);
         }
         self.line[self.len] = b;
         self.len += 1;

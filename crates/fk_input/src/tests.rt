@@ -66,8 +66,8 @@ fn lines_are_read_in_order(rt: HostRuntime) -> Result<(), Fail> {
 fn a_line_has_1600_bytes_at_most(rt: HostRuntime) -> Result<(), Fail> {
     for (len, first) in [
         (1600, NextLine::Line),
-        (1601, NextLine::Bad),
-        (1602, NextLine::Bad),
+        (1601, NextLine::LongLine),
+        (1602, NextLine::LongLine),
     ] {
         assert!(rt; len <= LONG.len());
         let mut source = MemSource::new(rt.alloc(), &LONG[..len], None)?;

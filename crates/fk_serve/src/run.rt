@@ -184,8 +184,8 @@ impl Session {
                 None
             }
             NextLine::End => Some(Stop::End),
-            NextLine::Bad => Some(Stop::BadLine),
-            NextLine::TooLong => Some(Stop::LongInput),
+            NextLine::LongLine => Some(Stop::BadLine),
+            NextLine::LongInput => Some(Stop::LongInput),
             NextLine::Failed => Some(Stop::ReadFault),
         }
     }
