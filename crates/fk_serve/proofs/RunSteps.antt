@@ -8,8 +8,9 @@ use Rattle.std.proofs.lemmas.Grind.{flat_map-append}
 use Rattle.std.proofs.lemmas.Bool.{cases_Bool}
 use Rattle.fk_base.specs.declared.status.Status.{Status}
 use Rattle.fk_base.specs.declared.status.Status.TheVariants as status
-use Rattle.fk_host.specs.Count.{Rose}
+use Rattle.fk_host.specs.Count.{counted, Rose}
 use Rattle.fk_host.specs.Stream.{Takes, Gives}
+use Rattle.fk_host.proofs.Counts.{counted-Rose}
 use Rattle.fk_host.proofs.Streams.{Takes-append, Gives-nil}
 use Rattle.fk_input.specs.Lines.{pieces, IsPiece, input_limit}
 use Rattle.fk_input.specs.Reading.{Reading, IsBounded, rest, TakesLine, FindsEnd, TakesLongLine, PassesLimit, BreaksOff}
@@ -250,11 +251,12 @@ module _ (command : Command) (start : Outside) (left left2 written : Option (Lis
         (most-taken passes.front passes.taken passes.offset)
         (can-end command start (outside left read_faults written write_faults) old new h trial page turns)
 
-    pub stopped-failed : BreaksOff old.reader new.reader (rest old.reader left) (rest new.reader left2) → Rose read_faults read_faults2 → Stopped command start (outside left2 read_faults2 written write_faults) new stop.ReadFault
-    stopped-failed breaks rose =
+    pub stopped-failed : BreaksOff old.reader new.reader (rest old.reader left) (rest new.reader left2) → read_faults2 ≡ counted read_faults → Stopped command start (outside left2 read_faults2 written write_faults) new stop.ReadFault
+    stopped-failed breaks cause =
+        let taken = Reads-broken IsTurnLine start.left (rest old.reader left) left2 old.reader new.reader h.turns h.read breaks in
         stopped-by command start left left2 written read_faults read_faults2 write_faults old new stop.ReadFault h turns broken
-        (Reads-broken IsTurnLine start.left (rest old.reader left) left2 old.reader new.reader h.turns h.read breaks)
-        (subst (λ (n : ℕ). Rose n read_faults2) h.same_count rose)
+        (taken.0, taken.1, taken.2)
+        (subst (λ (n : ℕ). Rose n read_faults2) h.same_count (subst (λ (n : ℕ). Rose read_faults n) (sym cause) (counted-Rose read_faults)))
         (most-taken breaks.front breaks.taken breaks.offset)
         (can-end command start (outside left read_faults written write_faults) old new h trial page turns)
 
