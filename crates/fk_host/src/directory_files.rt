@@ -3,10 +3,9 @@ ghost use Rattle.std.specs.Prelude.{◌≡◌, ◌≤◌, None, IfOk, vec_len};
 use crate::{FILE_LIMIT, FileErr, Files};
 use fk_base::Bytes;
 use std::alloc::Global;
-use std::fs;
 use std::fs::File;
-use std::io;
 use std::io::Read;
+use std::{fs, io};
 
 /// The files of the system, by their paths. What it reads is trusted, and it tells nothing. A name that is not UTF-8 is a fault.
 #[derive(Drop)]
