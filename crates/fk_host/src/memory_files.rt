@@ -63,7 +63,7 @@ impl MemFiles {
         Ok(())
     }
 
-    /// The bytes of the file of this name.
+    /// The file of this name, if it is held.
     pub fn find(&self, name: &[u8]) -> Option<&HeldFile>
         ensures { option_copied result ≡ find (λ file. bytes_eq file.name name.now) self.now.held }
     {
