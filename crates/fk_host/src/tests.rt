@@ -1,8 +1,11 @@
-use crate::{MemSink, MemSource, Sink, Source, StdSink, StdSource, write_all};
-use fk_base::Failed;
-use std::io;
+use crate::{
+    DirFiles, FileErr, Files, MemFiles, MemSink, MemSource, Sink, Source, StdSink, StdSource,
+    write_all,
+};
+use fk_base::{Bytes, Failed};
 use std::io::{Read, Write};
 use std::test::Fail;
+use std::{fs, io};
 
 // A failed read is None. The buffer has room for four bytes.
 #[derive(Drop)]
@@ -188,5 +191,54 @@ fn the_standard_streams_are_a_source_and_a_sink(rt: HostRuntime) -> Result<(), F
     let mut sink = StdSink::new(io::writer(&rt));
     assert_eq!(rt; write_all(&mut sink, b"written through\n"), Ok(()));
     let _source = StdSource::new(rt.reader());
+    Ok(())
+}
+
+// What a read answers, and what stands in the buffer behind it.
+#[test]
+fn files_in_memory_are_read_by_name(rt: HostRuntime) -> Result<(), Fail> {
+    let mut files = MemFiles::new(rt.alloc());
+    assert!(rt; files.find(b"a1").is_none());
+    files.add(b"a1", b"one")?;
+    assert!(rt; files.find(b"a2").is_none());
+    files.add(b"a2", b"two")?;
+    files.fail(b"a2")?;
+    files.fail(b"a3")?;
+    let mut out = Bytes::copy(rt.alloc(), b"read ")?;
+    let rows = [
+        (b"a1".as_slice(), Ok(()), b"read one".as_slice()),
+        (
+            b"a2".as_slice(),
+            Err(FileErr::Failed),
+            b"read one".as_slice(),
+        ),
+        (
+            b"a3".as_slice(),
+            Err(FileErr::Missing),
+            b"read one".as_slice(),
+        ),
+        (b"a1".as_slice(), Ok(()), b"read oneone".as_slice()),
+    ];
+    for (name, answer, text) in rows {
+        assert_eq!(rt; files.read(name, &mut out), answer);
+        assert_eq!(rt; out.as_slice(), text);
+    }
+    Ok(())
+}
+
+#[test]
+fn files_of_the_system_are_read_by_path(rt: HostRuntime) -> Result<(), Fail> {
+    fs::write(&rt, "read_by_path.txt", b"here")?;
+    let mut files = DirFiles::new(rt.alloc(), rt.clone()?);
+    let mut out = Bytes::new(rt.alloc());
+    assert_eq!(rt; files.read(b"read_by_path.txt", &mut out), Ok(()));
+    assert_eq!(rt; out.as_slice(), b"here".as_slice());
+    fs::remove_file(&rt, "read_by_path.txt")?;
+    assert_eq!(rt;
+        files.read(b"read_by_path.txt", &mut out),
+        Err(FileErr::Missing)
+    );
+    assert_eq!(rt; files.read(b"\xff", &mut out), Err(FileErr::Failed));
+    assert_eq!(rt; out.as_slice(), b"here".as_slice());
     Ok(())
 }

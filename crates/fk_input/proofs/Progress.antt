@@ -231,8 +231,7 @@ Reads-broken {T} IsLine start before left old new values h b =
     ∙ (ap (λ v. h.used ++ v) (none-fed b.front b.unfed) ∙ append-nil h.used))) in
     let taken : Takes (concat h.used ++ b.front) start left
     = subst (λ (o : Option (List ℕ)). Takes (concat h.used ++ b.front) start o) (rest-empty new left b.pending)
-    (Takes-append (concat h.used) b.front start before (rest new left) h.taken b.taken) in
-    (
+    (Takes-append (concat h.used) b.front start before (rest new left) h.taken b.taken) in (
       concat h.used ++ b.front,
       taken,
       subst P (sym cut) h.reads,
