@@ -4,5 +4,11 @@ pub mod DottedBytes
 pub mod Fronts
 pub mod NumberFronts
 pub mod Numerals
-pub mod Pairs
+pub mod PairTexts
+pub mod PairLists
 mod TextExamples
+pub mod FirstPlaces
+pub mod NetTexts
+pub mod Joined
+pub mod FoundValues
+pub mod Cuts

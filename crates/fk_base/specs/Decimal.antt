@@ -29,3 +29,12 @@ digits_fault limit text None =
 abbrev pub first_num_fault : ℕ → List ℕ → Option NumFault
 first_num_fault limit text =
     if length text == 0 then Some Empty else digits_fault limit text (first_non_digit text)
+
+-- the number of a text that has no fault
+abbrev pub number_unless : Option NumFault → ℕ → Option ℕ
+number_unless None value = Some value
+number_unless (Some fault) value = None
+
+-- the number of at most `greatest` that a text writes: by `numbers_are_found` the one whose text it is
+unfoldable pub number_in : ℕ → List ℕ → Option ℕ
+number_in greatest text = number_unless (first_num_fault greatest text) (decimal_value text)

@@ -1,8 +1,14 @@
 pub mod Address
 pub mod Bytes
+pub mod Characters
+pub mod CommandWords
 pub mod Decimal
+pub mod FirstFailed
 pub mod HashKind
 pub mod PairText
+pub mod Pairs
+pub mod Parts
 pub mod Private
 pub mod Shape
 pub mod Status
+pub mod Net

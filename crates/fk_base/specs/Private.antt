@@ -1,6 +1,7 @@
 -- What the contracts of this crate's private functions alone speak of: how a reader goes through a text part by part. No
 -- public contract cites it, so no caller has to believe it.
-use Rattle.std.specs.Prelude.{◌≡◌, ◌≢◌, ℕ, ◌+◌, ◌-◌, ◌<◌, ◌≤◌, ◌^◌, List, [], ◌∷◌, ◌++◌, codes, length, take, drop, slice_index}
+use Rattle.std.specs.Prelude.{◌≡◌, ◌≢◌, ℕ, ◌+◌, ◌-◌, ◌<◌, ◌≤◌, ◌^◌, List, [], ◌∷◌, ◌++◌, codes, length, take, drop, slice_index, ◌==◌, false}
+use Rattle.std.specs.List.{All}
 use Rattle.std.specs.Fmt.{decimal}
 use Rattle.fk_base.specs.declared.pair.Proto.{Proto}
 use Rattle.fk_base.specs.PairText.{proto_name}
@@ -49,3 +50,13 @@ IsDottedByte text = (byte : ℕ) × (byte < 2 ^ 8) × (text ≡ decimal byte ++ 
 -- the text is that of a protocol's name and the slash behind it
 abbrev pub IsProtoText : List ℕ → Type 0
 IsProtoText text = (proto : Proto) × (text ≡ proto_name proto ++ codes "/")
+
+-- no byte of the text is this one
+abbrev pub Lacks : ℕ → List ℕ → Type 0
+Lacks byte text = All (λ b. (b == byte) ≡ false) text
+
+-- the first such byte of the text stands at this place
+pub record IsFirstAt (byte : ℕ) (text : List ℕ) (at : ℕ) : Type 0 where
+  pub within : at < length text
+  pub lacks : Lacks byte (take at text)
+  pub split : text ≡ take at text ++ byte ∷ drop (at + 1) text

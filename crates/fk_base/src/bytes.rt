@@ -35,6 +35,15 @@ impl Bytes {
         })
     }
 
+    /// No bytes yet, in memory that is large enough for `room` of them.
+    pub fn with_room(alloc: Global, room: usize) -> Result<Self, NoMemory>
+        ensures { IfOk result (λ b. b ≡ []) }
+    {
+        Ok(Bytes {
+            items: Vec::with_capacity(alloc, room)?,
+        })
+    }
+
     pub fn as_slice(&self) -> &[u8]
         ensures { result.now ≡ self.now }
     {

@@ -49,7 +49,7 @@ pub fn put_decimal(value: u64, out: &mut Bytes) -> Result<(), NoMemory>
 }
 
 /// The number of at most `limit` that the text writes, or the first test that it fails.
-fn read_number(text: &[u8], limit: u64) -> Result<u64, NumFault>
+pub(crate) fn read_number(text: &[u8], limit: u64) -> Result<u64, NumFault>
     ensures value { IfOk result (λ n. n ≡ decimal_value text.now) }
     ensures bound { IfOk result (λ n. n ≤ limit) }
     ensures fault { MatchResult result

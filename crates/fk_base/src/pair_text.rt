@@ -1,4 +1,4 @@
-ghost use Rattle.std.specs.Prelude.{◌≡◌, ◌<◌, ◌^◌, ◌++◌, codes, IfErr, IfOk, OnErr, OnOk};
+ghost use Rattle.std.specs.Prelude.{◌≡◌, ◌<◌, ◌≤◌, ◌^◌, [], ◌++◌, codes, length, IfErr, IfOk, OnErr, OnOk};
 ghost use Rattle.fk_base.specs.declared.pair.Pair.{Pair};
 ghost use Rattle.fk_base.specs.PairText.{IsPairText, pair_text, proto_name};
 ghost use Rattle.fk_base.specs.Shape.{IsLongestFront};
@@ -25,9 +25,18 @@ pub fn put_pair(pair: Pair, out: &mut Bytes) -> Result<(), NoMemory>
     ensures err { OnErr result (out.new ≡ out.old) }
 {
     let mut text = ShortText::new();
+    put_pair_before(pair, &mut text);
+    out.append(text.as_slice())
+}
+
+/// Puts the pair's text before an empty one.
+pub(crate) fn put_pair_before(pair: Pair, text: &mut ShortText)
+    requires { text.old ≡ [] }
+    ensures text { text.new ≡ pair_text pair }
+    ensures room { length text.new ≤ 9 }
+{
     text.put_decimal(u64::from(pair.port));
     text.put_bytes(proto_bytes(pair.proto));
-    out.append(text.as_slice())
 }
 
 /// The protocol that the text begins with, and the place past the slash behind it.

@@ -3,3 +3,4 @@ mod ChainLemmas
 mod PaddingLemmas
 mod SealLemmas
 mod Examples
+pub mod OpenLemmas

@@ -3,3 +3,4 @@ pub mod Padding
 pub mod Chain
 pub mod Seals
 pub mod OpenFault
+pub mod Opens

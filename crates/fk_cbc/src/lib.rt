@@ -11,6 +11,7 @@
 mod chain;
 mod derivation;
 mod open_fault;
+mod opening;
 mod padding;
 mod salted;
 #[cfg(test)]
@@ -18,4 +19,5 @@ mod tests;
 
 pub use derivation::derive;
 pub use open_fault::OpenFault;
+pub use opening::sealed_bytes_are_opened;
 pub use salted::{one_plaintext, open, seal};

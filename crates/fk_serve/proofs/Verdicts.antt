@@ -7,7 +7,7 @@ use Rattle.fk_base.specs.declared.address.Ip4.{Ip4}
 use Rattle.fk_base.specs.declared.pair.Pair.{Pair}
 use Rattle.fk_base.specs.declared.pair.Proto.{Proto}
 use Rattle.fk_base.specs.declared.pair.Proto.TheVariants.{Tcp, Udp}
-use Rattle.fk_base.proofs.Pairs.{Pair-same}
+use Rattle.fk_base.proofs.PairTexts.{Pair-same}
 use Rattle.fk_trace.specs.declared.refusal.LogWhy.TheVariants.{Plain, Age, Port}
 use Rattle.fk_trace.specs.Decision.{Permit, Verdict}
 use Rattle.fk_trace.specs.Decision.Verdict.{Granted, Refused}

@@ -4,3 +4,4 @@ pub mod Rest
 pub mod Right
 pub mod Faults
 pub mod Examples
+pub mod BytesFound

@@ -7,21 +7,12 @@ use Rattle.fk_base.specs.Bytes.{IsBytes}
 use Rattle.fk_text.specs.Private.{IsText}
 use Rattle.fk_text.specs.Text.{letter_of, text_of}
 use Rattle.fk_text.specs.TextFault.{IsLetter, letter_number, HasZeroRest}
+use Rattle.fk_text.specs.Found.{bytes_of}
 use Rattle.fk_text.proofs.Letters.{letter_number-letter_of, number_of_letter, letter_from_number, letter_number_below}
 use Rattle.fk_text.proofs.Symbols.{numbers_of, text_of-numbers, text_of-encode_of, length-text_of}
 use Rattle.fk_text.proofs.Rest.{unused_bits-four, rest_of_none, rest_of_two, rest_of_three}
 
 -- ---- the bytes of a text
-
--- the bytes that letters stand for, four letters at a time
-pub bytes_of : List ℕ → List ℕ
-bytes_of [] = []
-bytes_of (w ∷ []) = []
-bytes_of (w ∷ x ∷ []) = (letter_number w * 4 + letter_number x / 16) ∷ []
-bytes_of (w ∷ x ∷ y ∷ []) = (letter_number w * 4 + letter_number x / 16) ∷ (letter_number x % 16 * 16 + letter_number y / 4) ∷ []
-bytes_of (w ∷ x ∷ y ∷ z ∷ text) =
-    (letter_number w * 4 + letter_number x / 16) ∷ (letter_number x % 16 * 16 + letter_number y / 4) ∷ (letter_number y % 4 * 64 + letter_number z)
-    ∷ bytes_of text
 
 pub IsBytes-bytes_of : (text : List ℕ) → All IsLetter text → IsBytes (bytes_of text)
 unfolding bytes_of

@@ -1,3 +1,4 @@
 pub mod Text
 pub mod TextFault
+pub mod Found
 pub mod Private

@@ -8,10 +8,12 @@
 #![tactic(auto)]
 
 mod letter;
+mod short;
 #[cfg(test)]
 mod tests;
 mod text;
 mod text_fault;
 
-pub use text::{is_text_of, put_text, take_text, text_has_len, text_of_one_list};
+pub use short::{ShortBytes, take_short};
+pub use text::{is_text_of, put_text, take_text, text_has_len, text_of_one_list, texts_are_found};
 pub use text_fault::TextFault;

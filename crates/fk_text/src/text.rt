@@ -1,5 +1,6 @@
-ghost use Rattle.std.specs.Prelude.{◌≡◌, ℕ, ◌⊎◌, ◌↔◌, ◌≤◌, ◌+◌, ◌*◌, ◌/◌, List, length, IsTrue, IfOk, IfErr, MatchOption, MatchResult};
+ghost use Rattle.std.specs.Prelude.{◌≡◌, ℕ, ◌⊎◌, ◌↔◌, ◌≤◌, ◌+◌, ◌*◌, ◌/◌, List, length, IsTrue, IfOk, IfErr, Some, MatchOption, MatchResult};
 ghost use Rattle.fk_base.specs.Bytes.{IsBytes};
+ghost use Rattle.fk_text.specs.Found.{bytes_in};
 ghost use Rattle.fk_text.specs.Private.{IsText};
 ghost use Rattle.fk_text.specs.Text.{text_of};
 ghost use Rattle.fk_text.specs.TextFault.{FirstTextFault};
@@ -53,6 +54,11 @@ pub fn text_has_len()
 /// One text is of at most one list of bytes.
 pub fn text_of_one_list()
     ensures { (b c : List ℕ) → IsBytes b → IsBytes c → text_of b ≡ text_of c → b ≡ c }
+{}
+
+/// Bytes are found in a text exactly where it is their text.
+pub fn texts_are_found()
+    ensures { (text bytes : List ℕ) → (bytes_in text ≡ Some bytes) ↔ (IsBytes bytes × (text ≡ text_of bytes)) }
 {}
 
 fn first_text_fault(text: &[u8]) -> Option<TextFault>

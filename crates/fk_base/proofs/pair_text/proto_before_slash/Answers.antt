@@ -1,4 +1,4 @@
-use Rattle.fk_base.proofs.Pairs.{proto_fault}
+use Rattle.fk_base.proofs.PairTexts.{proto_fault}
 use Rattle.fk_base.proofs.pair_text.proto_before_slash.Goals as goal
 
 pub returns-clause-err : goal.returns-clause-err

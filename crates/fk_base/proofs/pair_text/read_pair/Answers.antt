@@ -1,8 +1,8 @@
 use Rattle.std.proofs.Common.{ℕ, ◌∙◌, ◌++◌, List, sym, ap, arith, Ok}
 use Rattle.std.proofs.lemmas.Result.{err_from_is_err_and}
 use Rattle.fk_base.specs.declared.pair.Pair.{Pair}
-use Rattle.fk_base.proofs.Pairs.{slashed}
-use Rattle.fk_base.proofs.Pairs.{fault_in_proto, fault_in_port, pair_text-injective}
+use Rattle.fk_base.proofs.PairTexts.{slashed}
+use Rattle.fk_base.proofs.PairTexts.{fault_in_proto, fault_in_port, pair_text-injective}
 use Rattle.fk_base.proofs.pair_text.read_pair.Goals as goal
 
 pub returns-in_err-proto-clause-place : goal.returns-in_err-proto-clause-place

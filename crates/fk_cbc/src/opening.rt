@@ -1,0 +1,10 @@
+ghost use Rattle.std.specs.Prelude.{◌≡◌, ◌↔◌, ℕ, List, Some};
+ghost use Rattle.fk_base.specs.Bytes.{IsBytes};
+ghost use Rattle.fk_cbc.specs.Opens.{opened};
+ghost use Rattle.fk_cbc.specs.Seals.{Seals};
+
+/// A key opens bytes to a plaintext exactly where that was sealed to them, under some salt.
+pub fn sealed_bytes_are_opened()
+    ensures { (key plain sealed : List ℕ) → IsBytes sealed
+        → (opened key sealed ≡ Some plain) ↔ ((salt : List ℕ) × Seals key salt plain sealed) }
+{}
