@@ -1,0 +1,3 @@
+pub mod FieldText
+pub mod Fields
+pub mod Message
