@@ -1,0 +1,76 @@
+-- What the values of the configuration files are.
+use Rattle.std.specs.Prelude.{ℕ, Bool, true, false, ◌&&◌, ◌||◌, nat_le, List, [], ◌∷◌, length, map, codes, find, Option, Some, None, is_some, if◌then◌else◌}
+use Rattle.std.specs.List.{list_all}
+use Rattle.std.specs.Option.{option_and_then}
+use Rattle.std.specs.Str.{bytes_eq, str_to_ascii_lowercase}
+use Rattle.fk_base.specs.declared.hash_kind.HashKind.{HashKind}
+use Rattle.fk_base.specs.declared.hash_kind.HashKind.TheVariants.{Md5, Sha1, Sha256, Sha384, Sha512}
+use Rattle.fk_base.specs.Address.{ip_in}
+use Rattle.fk_base.specs.Decimal.{number_in}
+use Rattle.fk_base.specs.HashKind.{hash_kinds}
+use Rattle.fk_base.specs.Parts.{parts_at}
+use Rattle.fk_text.specs.Found.{bytes_in}
+use Rattle.fk_lines.specs.Lines.{trim_front, without_last}
+
+-- a decimal, from `least` to `most`
+abbrev pub number_within : ℕ → ℕ → List ℕ → Option ℕ
+number_within least most text = option_and_then (λ n. if nat_le least n then Some n else None) (number_in most text)
+
+-- a flag is `Y` or `N`
+abbrev pub flag_in : List ℕ → Option Bool
+flag_in text = if bytes_eq text (codes "Y") then Some true else (if bytes_eq text (codes "N") then Some false else None)
+
+abbrev pub hash_name : HashKind → List ℕ
+hash_name Md5 = codes "MD5"
+hash_name Sha1 = codes "SHA1"
+hash_name Sha256 = codes "SHA256"
+hash_name Sha384 = codes "SHA384"
+hash_name Sha512 = codes "SHA512"
+
+-- a hash is named in upper case letters or in lower case letters throughout
+abbrev pub names_hash : List ℕ → HashKind → Bool
+names_hash text kind = bytes_eq text (hash_name kind) || bytes_eq text (str_to_ascii_lowercase (hash_name kind))
+
+-- the hash that a text names
+abbrev pub hash_in : List ℕ → Option HashKind
+hash_in text = find (names_hash text) hash_kinds
+
+-- from one byte to so many
+abbrev pub has_len_within : ℕ → List ℕ → Bool
+has_len_within most text = nat_le 1 (length text) && nat_le (length text) most
+
+-- a key has 1 to 128 bytes
+abbrev pub key_in : List ℕ → Option (List ℕ)
+key_in text = if has_len_within 128 text then Some text else None
+
+-- the text without up to two `=` (61) at its end
+abbrev pub without_padding : List ℕ → List ℕ
+without_padding text = without_last 61 (without_last 61 text)
+
+-- the key whose base64 a text is (RFC 4648, section 4), with padding or without
+unfoldable pub base64_key_in : List ℕ → Option (List ℕ)
+base64_key_in text = option_and_then key_in (bytes_in (without_padding text))
+
+-- the items in the parts between commas: behind each comma there may be blanks
+abbrev pub items_left : Bool → List (List ℕ) → List (List ℕ)
+items_left true parts = map trim_front parts
+items_left false [] = []
+items_left false (first ∷ others) = first ∷ map trim_front others
+
+-- the items of a list, between its commas (44)
+abbrev pub items_of : List ℕ → List (List ℕ)
+items_of text = items_left false (parts_at 44 text)
+
+-- a list of at most so many items, each of which passes a test
+abbrev pub is_list_of : (List ℕ → Bool) → ℕ → List ℕ → Bool
+is_list_of is_item most text = nat_le (length (items_of text)) most && list_all is_item (items_of text)
+
+-- an address, or an address and the number of the net's bits, from 0 to 32
+abbrev pub are_net_parts : List (List ℕ) → Bool
+are_net_parts (address ∷ []) = is_some (ip_in address)
+are_net_parts (address ∷ bits ∷ []) = is_some (ip_in address) && is_some (number_in 32 bits)
+are_net_parts _ = false
+
+-- the text of a net, in which a slash (47) stands before the bits
+abbrev pub is_net_text : List ℕ → Bool
+is_net_text text = are_net_parts (parts_at 47 text)
