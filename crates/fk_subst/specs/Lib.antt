@@ -1,0 +1,3 @@
+pub mod CommandFault
+pub mod Fill
+pub mod Template
