@@ -1,2 +1,6 @@
 pub mod Counts
 pub mod Streams
+mod Mediums
+mod Moments
+mod MemoryCalls
+mod MediumRow

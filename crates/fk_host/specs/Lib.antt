@@ -1,4 +1,7 @@
 pub mod Count
+pub mod Disk
+pub mod Medium
+pub mod Sound
 pub mod Stream
 pub mod Supply
 pub mod Stock

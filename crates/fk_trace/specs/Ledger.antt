@@ -38,6 +38,22 @@ is_seen digest ledger = list_any (λ other. pointwise nat_eq other digest) (seen
 abbrev pub next_id : List Change → ℕ
 next_id ledger = length (opens ledger) + 1
 
+-- The ledger after these changes, the first of them first. Whatever adds a change to a ledger says so by this function.
+abbrev pub after : List Change → List Change → List Change
+after ledger changes = ledger ++ changes
+
+-- What two ledgers have to agree in so that nothing above them can tell them apart.
+pub record State : Type 0 where
+  -- the digests of all records
+  pub seen : List (List ℕ)
+  -- the records that are not closed for good, by rising number
+  pub live : List OpenRecord
+  -- the number of the next record
+  pub next : ℕ
+
+abbrev pub state_of : List Change → State
+state_of ledger = record { seen = seen ledger; live = live ledger; next = next_id ledger }
+
 -- the change may stand behind the ledger: a new record has the next number and a new digest, and a Done names a live record
 abbrev pub MayFollow : List Change → Change → Type 0
 MayFollow ledger (Open item) = (item.id ≡ next_id ledger) × (Contains (seen ledger) item.digest.0 → ⊥)
@@ -46,7 +62,7 @@ MayFollow ledger (Done id) = Contains (map (λ item. item.id) (live ledger)) id
 -- each change may stand behind those before it
 abbrev pub IsLedgerFrom : List Change → List Change → Type 0
 IsLedgerFrom before [] = Unit {0}
-IsLedgerFrom before (change ∷ changes) = MayFollow before change × IsLedgerFrom (before ++ change ∷ []) changes
+IsLedgerFrom before (change ∷ changes) = MayFollow before change × IsLedgerFrom (after before (change ∷ [])) changes
 
 abbrev pub IsLedger : List Change → Type 0
 IsLedger ledger = IsLedgerFrom [] ledger

@@ -1,0 +1,26 @@
+use Rattle.std.proofs.Common.{◌≡◌, ℕ, ◌+◌, List, [], ◌∷◌, ◌++◌, length, false, ap, ◌∙◌, arith, rules, is_err}
+use Rattle.std.proofs.lemmas.List.{length_push}
+use Rattle.fk_host.specs.declared.memory_host.Call.{Call}
+use Rattle.fk_host.specs.Medium.{texts}
+use Rattle.fk_host.proofs.MemoryCalls.{not_err, texts_after}
+use Rattle.fk_host.proofs.memory_host.MemHost.make.Goals as goal
+
+pub invariant_of-self-then-failed : goal.invariant_of-self-then-failed
+invariant_of-self-then-failed c =
+    let fine : is_err c.apply.result ≡ false = first_of (search rules, cc, grind arith) in
+    let items : c.push_reserved.new.self.items ≡ c.self.inside.calls.items ++ c.args.call ∷ [] = c.push_reserved.ensures.items ∙ ap (λ xs. xs ++ c.args.call ∷ []) c.reserve.ensures.items in
+    let done = not_err c.apply.result _ fine c.apply.ensures in
+    rw items (
+      (λ told. texts_after (texts c.self.inside.first) c.self.inside.calls.items c.args.call c.self.inside.present c.apply.new.self (c.self.invariant.0 told) done),
+      omega (arith, length_push c.self.inside.calls.items c.args.call, c.self.invariant.1),
+    )
+
+pub invariant_of-self-else-failed : goal.invariant_of-self-else-failed
+invariant_of-self-else-failed c =
+    let fine : is_err c.apply.result ≡ false = first_of (search rules, cc, grind arith) in
+    let items : c.push_reserved.new.self.items ≡ c.self.inside.calls.items ++ c.args.call ∷ [] = c.push_reserved.ensures.items ∙ ap (λ xs. xs ++ c.args.call ∷ []) c.reserve.ensures.items in
+    let done = not_err c.apply.result _ fine c.apply.ensures in
+    rw items (
+      (λ told. texts_after (texts c.self.inside.first) c.self.inside.calls.items c.args.call c.self.inside.present c.apply.new.self (c.self.invariant.0 told) done),
+      omega (arith, length_push c.self.inside.calls.items c.args.call, c.self.invariant.1),
+    )

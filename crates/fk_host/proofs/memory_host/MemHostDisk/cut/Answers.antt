@@ -1,0 +1,22 @@
+use Rattle.fk_host.proofs.MemoryCalls.{cut_ok, cut_err, leaves_host, has_cause}
+use Rattle.fk_host.specs.Medium.{fails_next, fails_to_write}
+use Rattle.fk_host.specs.Disk.{area_of}
+use Rattle.std.proofs.Common.{◌≡◌, ℕ, ◌+◌, length, take, drop, List}
+use Rattle.fk_host.specs.declared.memory_host.Call.TheVariants.{Other, Write as Writes, Cut as Cuts, Sync as Syncs}
+use Rattle.fk_host.proofs.memory_host.MemHostDisk.cut.Goals as goal
+
+pub returns : goal.returns
+returns c =
+    let old = c.args.self.now in
+    let new = c.shorten.new.self in
+    let failed = fails_next old in
+    let says = c.shorten.ensures.result in
+    let state = c.shorten.ensures.state in
+    record {
+      ok = cut_ok old new c.args.area c.args.len failed c.shorten.result says state;
+      err = cut_err old new c.args.area c.args.len failed c.shorten.result says state;
+      host = leaves_host old new (Cuts c.args.area c.args.len failed) failed state;
+      cause = has_cause old new (Cuts c.args.area c.args.len failed) failed c.shorten.result says state;
+      result = says;
+      state = state;
+    }

@@ -1,0 +1,21 @@
+use Rattle.fk_host.proofs.MemoryCalls.{other_called, leaves_host, has_cause, ok_told}
+use Rattle.fk_host.specs.Medium.{fails_next, fails_to_write}
+use Rattle.fk_host.specs.Disk.{area_of}
+use Rattle.std.proofs.Common.{◌≡◌, ℕ, ◌+◌, length, take, drop, List}
+use Rattle.fk_host.specs.declared.memory_host.Call.TheVariants.{Other, Write as Writes, Cut as Cuts, Sync as Syncs}
+use Rattle.fk_host.proofs.memory_host.MemHostDisk.len.Goals as goal
+
+pub returns : goal.returns
+returns c =
+    let old = c.args.self.now in
+    let new = c.measure.new.self in
+    let failed = fails_next old in
+    let state = c.measure.ensures.state in
+    record {
+      len = ok_told c.measure.result (λ n areas. n ≡ length (area_of c.args.area areas)) old new failed state c.measure.ensures.len;
+      call = other_called old new failed state;
+      host = leaves_host old new Other failed state;
+      cause = has_cause old new Other failed c.measure.result c.measure.ensures.result state;
+      result = c.measure.ensures.result;
+      state = state;
+    }

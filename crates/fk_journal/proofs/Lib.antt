@@ -1,0 +1,7 @@
+pub mod Told
+mod Tails
+mod PutLemmas
+mod Forms
+mod Openings
+mod Contents
+mod Uniqueness

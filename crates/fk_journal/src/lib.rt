@@ -1,0 +1,18 @@
+//! A journal on one area of a disk: a list of entries that grows by one, whole or not at all, whenever a crash may come.
+//!
+//! An entry counts once its gate byte is open, and a gate is opened by a write of its own after all behind it is on the disk.
+//! What an entry says is not known here.
+//!
+//! Start at `specs/Entries.antt` for the bytes, and at `journal` for the calls.
+#![tactic(auto)]
+
+mod area;
+mod entry;
+mod fault;
+mod journal;
+mod laws;
+
+pub use entry::Entry;
+pub use fault::JournalErr;
+pub use journal::Journal;
+pub use laws::{no_area_holds_two_lists, same_entries_are_held, what_is_written_is_held};
