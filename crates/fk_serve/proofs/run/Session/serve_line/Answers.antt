@@ -8,13 +8,13 @@ pub returns-in-End-clause-goes : goal.returns-in-End-clause-goes
 returns-in-End-clause-goes g c = λ start h.
     stopped-end c.args.command.now start (g.I.Source.left c.args.input.now) (g.I.Source.left c.next.new.input) (g.K.Sink.written c.args.out.now) (g.I.Source.faults c.args.input.now) (g.I.Source.faults c.next.new.input) (g.K.Sink.faults c.args.out.now) c.args.self.now _ h refl refl c.next.ensures.bound refl refl c.in-End.ensures.says c.in-End.ensures.cause
 
-pub returns-in-Bad-clause-goes : goal.returns-in-Bad-clause-goes
-returns-in-Bad-clause-goes g c = λ start h.
-    stopped-long_line c.args.command.now start (g.I.Source.left c.args.input.now) (g.I.Source.left c.next.new.input) (g.K.Sink.written c.args.out.now) (g.I.Source.faults c.args.input.now) (g.I.Source.faults c.next.new.input) (g.K.Sink.faults c.args.out.now) c.args.self.now _ h refl refl c.next.ensures.bound refl refl c.in-Bad.ensures.says c.in-Bad.ensures.cause
+pub returns-in-LongLine-clause-goes : goal.returns-in-LongLine-clause-goes
+returns-in-LongLine-clause-goes g c = λ start h.
+    stopped-long_line c.args.command.now start (g.I.Source.left c.args.input.now) (g.I.Source.left c.next.new.input) (g.K.Sink.written c.args.out.now) (g.I.Source.faults c.args.input.now) (g.I.Source.faults c.next.new.input) (g.K.Sink.faults c.args.out.now) c.args.self.now _ h refl refl c.next.ensures.bound refl refl c.in-LongLine.ensures.says c.in-LongLine.ensures.cause
 
-pub returns-in-TooLong-clause-goes : goal.returns-in-TooLong-clause-goes
-returns-in-TooLong-clause-goes g c = λ start h.
-    stopped-limit c.args.command.now start (g.I.Source.left c.args.input.now) (g.I.Source.left c.next.new.input) (g.K.Sink.written c.args.out.now) (g.I.Source.faults c.args.input.now) (g.I.Source.faults c.next.new.input) (g.K.Sink.faults c.args.out.now) c.args.self.now _ h refl refl c.next.ensures.bound refl refl c.in-TooLong.ensures.says c.in-TooLong.ensures.cause
+pub returns-in-LongInput-clause-goes : goal.returns-in-LongInput-clause-goes
+returns-in-LongInput-clause-goes g c = λ start h.
+    stopped-limit c.args.command.now start (g.I.Source.left c.args.input.now) (g.I.Source.left c.next.new.input) (g.K.Sink.written c.args.out.now) (g.I.Source.faults c.args.input.now) (g.I.Source.faults c.next.new.input) (g.K.Sink.faults c.args.out.now) c.args.self.now _ h refl refl c.next.ensures.bound refl refl c.in-LongInput.ensures.says c.in-LongInput.ensures.cause
 
 pub returns-in-Failed-clause-goes : goal.returns-in-Failed-clause-goes
 returns-in-Failed-clause-goes g c = λ start h.
