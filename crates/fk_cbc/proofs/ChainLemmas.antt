@@ -189,7 +189,7 @@ plain-same key v p q hk hv hp hq e =
     sym (decipher-cipher key (xor_bytes p v) hk (HasBytes-xor_bytes 16 p v hp hv)) ∙ ap (decipher key) e ∙ decipher-cipher key (xor_bytes q v) hk (HasBytes-xor_bytes 16 q v hq hv) in
     sym (xor_bytes-twice p v (hp.size ∙ sym hv.size)) ∙ ap (λ r. xor_bytes r v) under ∙ xor_bytes-twice q v (hq.size ∙ sym hv.size)
 
-HasBytes-next : (key v p c : List ℕ) → HasBytes 32 key → HasBytes 16 v → HasBytes 16 p → c ≡ cipher key (xor_bytes p v) → HasBytes 16 c
+pub HasBytes-next : (key v p c : List ℕ) → HasBytes 32 key → HasBytes 16 v → HasBytes 16 p → c ≡ cipher key (xor_bytes p v) → HasBytes 16 c
 HasBytes-next key v p c hk hv hp e =
     subst (HasBytes 16) (sym e) (HasBytes-cipher key (xor_bytes p v) hk (HasBytes-xor_bytes 16 p v hp hv))
 

@@ -1,6 +1,7 @@
 mod KeyLemmas
 mod ChainLemmas
 mod PaddingLemmas
-mod SealLemmas
+pub mod SealLemmas
 mod Examples
 pub mod OpenLemmas
+pub mod SealedBytes

@@ -1,10 +1,9 @@
 -- What a key opens is the plaintext that was sealed.
-use Rattle.std.proofs.Common.{◌≡◌, ◌≢◌, ◌↔◌, ℕ, zero, suc, ◌+◌, ◌-◌, ◌*◌, ◌/◌, ◌%◌, ◌<◌, ◌≤◌, true, false, List, [], ◌∷◌, ◌++◌, length, get_or, take, drop, Option, Some, None, refl, sym, ap, ◌∙◌, subst, arith, inl, inr}
+use Rattle.std.proofs.Common.{◌≡◌, ◌↔◌, ℕ, zero, suc, ◌+◌, ◌-◌, ◌*◌, ◌%◌, ◌≤◌, true, List, [], ◌∷◌, ◌++◌, length, take, drop, Some, None, refl, sym, ap, ◌∙◌, subst, arith, inl, inr}
 use Rattle.std.specs.Prelude.{◌&&◌, ◌==◌, nat_le}
-use Rattle.std.specs.List.{concat}
 use Rattle.std.specs.Str.{bytes_eq}
-use Rattle.std.proofs.lemmas.Bool.{and_parts, and_from, cases_Bool, cases_lt, le-leb, leb-true, eq-eqb, eqb-true, eqb-false}
-use Rattle.std.proofs.lemmas.List.{get_or-drop, length-drop, length-take, take-append-drop}
+use Rattle.std.proofs.lemmas.Bool.{and_parts, and_from, cases_Bool, cases_lt, le-leb, leb-true, eqb-true, eqb-false}
+use Rattle.std.proofs.lemmas.List.{get_or-drop, length-drop, take-append-drop}
 use Rattle.std.proofs.lemmas.Option.{cond_some}
 use Rattle.std.proofs.lemmas.Slice.Eq.{bytes_eq-Decides}
 use Rattle.fk_base.specs.Bytes.{IsBytes, HasBytes}
@@ -12,7 +11,7 @@ use Rattle.fk_aes.specs.Cipher.{cipher, decipher}
 use Rattle.fk_aes.specs.Field.{xor_bytes}
 use Rattle.fk_aes.proofs.ByteLists.{HasBytes-xor_bytes, xor_bytes-twice}
 use Rattle.fk_aes.proofs.CipherLaws.{HasBytes-decipher, cipher-decipher}
-use Rattle.fk_cbc.specs.Chain.{Chained, Encrypts}
+use Rattle.fk_cbc.specs.Chain.{Encrypts}
 use Rattle.fk_cbc.specs.KeyDerivation.{cipher_key, initial_vector}
 use Rattle.fk_cbc.specs.OpenFault.{Deciphers, HasBadLength, HasMark}
 use Rattle.fk_cbc.specs.Opens.{deciphered_blocks, deciphered_text, is_marked, opened, padding_len, unpadded}
@@ -21,7 +20,7 @@ use Rattle.fk_cbc.specs.Seals.{Seals, block_count, salt_in, salt_mark}
 use Rattle.fk_cbc.proofs.ChainLemmas.{HasBytes-part}
 use Rattle.fk_cbc.proofs.KeyLemmas.{HasBytes-cipher_key, HasBytes-initial_vector}
 use Rattle.fk_cbc.proofs.PaddingLemmas.{IsPaddedBy-of}
-use Rattle.fk_cbc.proofs.SealLemmas.{SealedParts, sealed_parts, text-same, Seals-from_parts}
+use Rattle.fk_cbc.proofs.SealLemmas.{sealed_parts, text-same, Seals-from_parts}
 
 IsBytes-drop : (n : ℕ) (xs : List ℕ) → IsBytes xs → IsBytes (drop n xs)
 IsBytes-drop n xs all i = rw (get_or-drop n xs i 0) (all (n + i))

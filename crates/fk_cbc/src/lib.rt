@@ -19,5 +19,5 @@ mod tests;
 
 pub use derivation::derive;
 pub use open_fault::OpenFault;
-pub use opening::sealed_bytes_are_opened;
+pub use opening::{sealed_bytes_are_opened, sealed_bytes_have_len};
 pub use salted::{one_plaintext, open, seal};

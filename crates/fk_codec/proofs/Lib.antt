@@ -1,8 +1,8 @@
-mod Example
-pub mod Joined
-pub mod Words
+mod Examples
+pub mod Values
+pub mod TestLists
 pub mod Digests
-pub mod Messages
 pub mod Law
-pub mod Reading
-pub mod Cuts
+pub mod PartsRead
+pub mod Lengths
+pub mod Written

@@ -1,3 +1,3 @@
-pub mod Fields
-pub mod Cutting
-pub mod Summary
+pub mod Spells
+pub mod DecodeFault
+pub mod Private

@@ -1,22 +1,30 @@
-ghost use Rattle.std.specs.Prelude.{◌≡◌, ◌↔◌, IsTrue, is_some};
-ghost use Rattle.fk_codec.specs.Cutting.{kind_by_len, kind_in};
-ghost use Rattle.fk_codec.specs.Fields.{digest_text};
+ghost use Rattle.std.specs.Prelude.{◌≡◌, ◌↔◌, IsTrue, MatchResult, None, Some};
+ghost use Rattle.fk_base.specs.FirstFailed.{first_failed};
+ghost use Rattle.fk_base.specs.HashKind.{kind_by_len};
+ghost use Rattle.fk_codec.specs.DecodeFault.{digest_tests};
+ghost use Rattle.fk_codec.specs.Spells.{digest_text};
+ghost use Rattle.std.specs.Prelude.{length};
 
+use crate::DecodeFault;
 use fk_base::HashKind;
 use fk_mac::{MacBuf, hash};
 use fk_text::is_text_of;
 
-/// Whether a digest is that of the front, under the hash that its length names.
-pub(crate) fn is_digest_of(digest: &[u8], front: &[u8]) -> bool
-    ensures { result ≡ is_some (kind_in front.now digest.now) }
+/// The hash that a digest names by its length, where the digest is that of the front.
+pub(crate) fn read_digest(front: &[u8], digest: &[u8]) -> Result<HashKind, DecodeFault>
+    ensures { MatchResult result
+        (λ kind. (first_failed (digest_tests front.now digest.now) ≡ None) × (kind_by_len (length digest.now) ≡ Some kind))
+        (λ fault. first_failed (digest_tests front.now digest.now) ≡ Some fault) }
 {
-    match kind_by_len(digest.len()) {
-        Some(kind) => is_hash_text(kind, front, digest),
-        None => false,
+    let Some(kind) = kind_by_len(digest.len()) else {
+        return Err(DecodeFault::DigestLength);
+    };
+    if !is_digest_of(kind, front, digest) {
+        return Err(DecodeFault::DigestDiffers);
     }
+    Ok(kind)
 }
 
-/// The hash whose digests have this length.
 fn kind_by_len(len: usize) -> Option<HashKind>
     ensures { result ≡ kind_by_len len }
 {
@@ -30,10 +38,10 @@ fn kind_by_len(len: usize) -> Option<HashKind>
     }
 }
 
-fn is_hash_text(kind: HashKind, front: &[u8], text: &[u8]) -> bool
-    ensures { IsTrue result ↔ (text.now ≡ digest_text kind front.now) }
+fn is_digest_of(kind: HashKind, front: &[u8], digest: &[u8]) -> bool
+    ensures { IsTrue result ↔ (digest.now ≡ digest_text kind front.now) }
 {
     let mut hashed = MacBuf::new();
     hash(kind, front, &mut hashed);
-    is_text_of(text, hashed.as_slice())
+    is_text_of(digest, hashed.as_slice())
 }

@@ -1,16 +1,23 @@
-//! The plaintext of a packet: the text that says who asks for which port, read.
+//! The plaintext of a packet: all its fields in one text, with a digest of it at the end.
 //!
-//! It is a list of parts joined by `:`, the last of which is a digest of all before it. Only a plaintext that asks for
-//! access to one pair is known here. Nothing here is opened, authenticated or allowed.
+//! `encode` writes the one plaintext of checked fields, and `decode` reads it back or names the first test that a text fails.
+//! Nothing here is sealed, authenticated or allowed.
 //!
-//! Start at `plaintext`. `specs/Fields.antt` joins a plaintext from its fields, and `specs/Cutting.antt` finds the fields
-//! of a text.
+//! Start at `decode`. `specs/Spells.antt` joins a plaintext from its fields, and `specs/DecodeFault.antt` has the tests that
+//! any other text fails.
 #![tactic(auto)]
 
 mod digest;
-mod field;
-mod message;
-mod parts;
-mod plaintext;
+mod fault;
+mod head;
+mod laws;
+mod reading;
+mod tail;
+#[cfg(test)]
+mod tests;
+mod writing;
 
-pub use plaintext::{Plaintext, plaintext_law, read_plaintext};
+pub use fault::DecodeFault;
+pub use laws::{plaintexts_are_decoded, plaintexts_have_len};
+pub use reading::decode;
+pub use writing::encode;

@@ -11,12 +11,12 @@ use Rattle.std.proofs.Math.Bool.{or-false, or-true}
 use Rattle.fk_base.specs.declared.purpose.Purpose.{Purpose}
 use Rattle.fk_base.specs.declared.purpose.Purpose.TheVariants.{Open, Close}
 use Rattle.fk_trace.specs.Trace.{Event, Item, Child, children, running, open_runs, close_tried, is_open_of, is_close_of}
-use Rattle.fk_trace.specs.Trace.Event.{Turn, Began, Ended}
+use Rattle.fk_trace.specs.Trace.Event.{Turn, Began, StartFailed, Ended}
 use Rattle.fk_trace.specs.Idle.{End, is_clean, last_close, or_else}
 use Rattle.fk_trace.specs.Orderly.{IsOrderly}
 use Rattle.fk_trace.proofs.Lists.{list_any-find, find-congr, find-filter_kept, find-filter_none}
 use Rattle.fk_trace.proofs.Running.{running-children, child_numbered-running, same_by_number, same_by_purpose, close-purpose, open-purpose}
-use Rattle.fk_cycle.specs.Kept.{Kept, noted_turn, noted_begun, noted_ended, may_begin}
+use Rattle.fk_cycle.specs.Kept.{Kept, noted_turn, noted_begun, noted_not_begun, noted_ended, may_begin}
 use Rattle.fk_cycle.specs.Stands.{Obligation, kept_of, record_of}
 
 kept_same : {id due : ℕ} {a b : Bool} {c d : Option Bool} {l m : Option End} {t u : Bool} → a ≡ b → c ≡ d → l ≡ m → t ≡ u
@@ -40,6 +40,14 @@ close_of past id = option_map (λ child. is_clean past child.number id) (find (�
 
 pub kept_of-turn : (past : List Item) (ends : List ℕ) (owed : Obligation) (number moments faults : ℕ) → kept_of (item_of (Turn number) moments faults ∷ past) ends owed ≡ noted_turn (kept_of past ends owed)
 kept_of-turn past ends owed number moments faults = rw append-nil refl
+
+pub kept_of-not_begun : (past : List Item) (ends : List ℕ) (owed : Obligation) (purpose : Purpose) (words : List (List ℕ)) (moments faults : ℕ)
+    → kept_of (item_of (StartFailed purpose words) moments faults ∷ past) ends owed ≡ noted_not_begun purpose (kept_of past ends owed)
+kept_of-not_begun past ends owed (Open id) words moments faults = rw append-nil refl
+kept_of-not_begun past ends owed (Close id) words moments faults =
+    let kept : Bool → Kept = λ b. record (kept_of past ends owed) { tried = b || close_tried past owed.id } in
+    let tried : kept_of (item_of (StartFailed (Close id) words) moments faults ∷ past) ends owed ≡ kept (id == owed.id) = rw append-nil refl in
+    tried ∙ elim (id == owed.id) as (λ b. kept b ≡ cond b (record (kept_of past ends owed) { tried = true }) (kept_of past ends owed)) [ true ↦ refl | false ↦ refl ]
 
 module _ (past : List Item) (ends : List ℕ) (owed : Obligation) (number : ℕ) (words : List (List ℕ)) (moments faults : ℕ) (below : All (λ child. child.number < number) (children past)) where
   clean-old : (purpose : Purpose) (child : Child) → Contains (running past) child → is_clean (item_of (Began number purpose words) moments faults ∷ past) child.number owed.id ≡ is_clean past child.number owed.id

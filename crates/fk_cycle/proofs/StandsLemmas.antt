@@ -11,14 +11,14 @@ use Rattle.std.proofs.lemmas.Bool.{eqb-true, eq-eqb, ne_eqb, and_parts, not-true
 use Rattle.fk_base.specs.declared.purpose.Purpose.{Purpose}
 use Rattle.fk_base.specs.declared.purpose.Purpose.TheVariants.{Open, Close}
 use Rattle.fk_trace.specs.Trace.{Event, Item, Child, children, running, open_runs, close_runs, is_open_of, is_close_of}
-use Rattle.fk_trace.specs.Trace.Event.{Turn, Began, Ended}
+use Rattle.fk_trace.specs.Trace.Event.{Turn, Began, StartFailed, Ended}
 use Rattle.fk_trace.specs.Idle.{is_clean}
 use Rattle.fk_trace.specs.Orderly.{is_attempted}
 use Rattle.fk_trace.proofs.Lists.{list_any-find, list_any-at, list_any-from, list_any-map, list_any-none, map-step, same_by_key, filter-map, find-filter_kept, Contains-map, All-by}
 use Rattle.fk_trace.proofs.Running.{orderly-quiet, orderly-began, orderly-ended}
-use Rattle.fk_cycle.specs.Kept.{Kept, fresh, noted_turn, noted_begun, noted_ended, may_begin, has_running, is_kept}
+use Rattle.fk_cycle.specs.Kept.{Kept, fresh, noted_turn, noted_begun, noted_not_begun, noted_ended, may_begin, has_running, is_kept}
 use Rattle.fk_cycle.specs.Stands.{Obligation, Stands, kept_of, record_of, is_owed, without}
-use Rattle.fk_cycle.proofs.KeptLemmas.{kept_of-turn, kept_of-began, kept_of-ended, none-mapped}
+use Rattle.fk_cycle.proofs.KeptLemmas.{kept_of-turn, kept_of-not_begun, kept_of-began, kept_of-ended, none-mapped}
 use Rattle.fk_cycle.proofs.FreshLemmas.{kept_of-opened}
 use Rattle.std.proofs.lemmas.List.Folds.{list_any-append}
 
@@ -67,6 +67,10 @@ parted-begun (Open id) kept may parted =
 parted-begun (Close id) kept may parted =
     elim (id == kept.id) as (λ b. IsParted (cond b (record kept { close = Some (not kept.open_runs); tried = true }) kept))
     [ true ↦ λ clean. not-true kept.open_runs (some_same clean) | false ↦ parted ]
+
+parted-not_begun : (purpose : Purpose) (kept : Kept) → IsParted kept → IsParted (noted_not_begun purpose kept)
+parted-not_begun (Open id) kept parted = parted
+parted-not_begun (Close id) kept parted = elim (id == kept.id) as (λ b. IsParted (cond b (record kept { tried = true }) kept)) [ true ↦ parted | false ↦ parted ]
 
 parted-ended : (purpose : Purpose) (good : Bool) (moment : ℕ) (kept : Kept) → IsParted kept → IsParted (noted_ended purpose good moment kept)
 parted-ended (Open id) good moment kept parted =
@@ -127,6 +131,18 @@ module _ (machine : List Kept) (past : List Item) (ends : List ℕ) (live : List
         kept = ap (map noted_turn) stands.kept ∙ sym (map-step (kept_of (item_of (Turn number) moments faults ∷ past) ends) (kept_of past ends) noted_turn live (λ owed m. kept_of-turn past ends owed number moments faults));
         held = rw append-nil stands.held;
         parted = All-map IsParted noted_turn machine stands.parted;
+      }
+
+  pub Stands-not_begun : (purpose : Purpose) (words : List (List ℕ)) (moments faults : ℕ) → Stands (map (noted_not_begun purpose) machine) (item_of (StartFailed purpose words) moments faults ∷ past) ends live
+  Stands-not_begun purpose words moments faults =
+      record {
+        orderly = orderly-quiet past (item_of (StartFailed purpose words) moments faults) (append-nil (children past)) (append-nil (running past)) stands.orderly;
+        moments = stands.moments ∙ omega arith;
+        distinct = stands.distinct;
+        kept = ap (map (noted_not_begun purpose)) stands.kept
+            ∙ sym (map-step (kept_of (item_of (StartFailed purpose words) moments faults ∷ past) ends) (kept_of past ends) (noted_not_begun purpose) live (λ owed m. kept_of-not_begun past ends owed purpose words moments faults));
+        held = rw append-nil stands.held;
+        parted = All-map IsParted (noted_not_begun purpose) machine (all-kept (λ kept. IsParted (noted_not_begun purpose kept)) (λ owed m. parted-not_begun purpose (kept_of past ends owed) (parted-at owed m)));
       }
 
   -- the obligation for whose record a child may begin

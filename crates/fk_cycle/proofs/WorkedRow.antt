@@ -1,8 +1,8 @@
 -- A worked row: a record is opened, its close waits for its open, and a second, clean close settles it.
-use Rattle.std.proofs.Common.{◌≡◌, ℕ, true, false, List, [], ◌∷◌, Some, None, refl}
+use Rattle.std.proofs.Common.{◌≡◌, true, false, List, [], ◌∷◌, Some, None, refl}
 use Rattle.fk_base.specs.declared.purpose.Purpose.TheVariants.{Open, Close}
 use Rattle.fk_trace.specs.Trace.{Event, Item}
-use Rattle.fk_trace.specs.Trace.Event.{Turn, Began, Ended}
+use Rattle.fk_trace.specs.Trace.Event.{Turn, Began, StartFailed, Ended}
 use Rattle.fk_cycle.specs.declared.act.Act.TheVariants.{Nothing, Wait, Settle}
 use Rattle.fk_cycle.specs.Stands.{Obligation, kept_of, is_due}
 use Rattle.fk_cycle.specs.Acts.{act_at}
@@ -50,6 +50,13 @@ idle_again = refl
 
 not_twice_in_a_turn : is_due (after (Began 3 (Close 1) []) idle) (1700000031 ∷ 1700000031 ∷ []) 1700000031 owed ≡ false
 not_twice_in_a_turn = refl
+
+-- a close whose start failed counts as tried in its turn, and no more in the next
+failed_start_is_tried : is_due (after (StartFailed (Close 1) []) opened) [] 1700000030 owed ≡ false
+failed_start_is_tried = refl
+
+tried_in_the_next_turn : is_due (after (Turn 3) (after (StartFailed (Close 1) []) opened)) [] 1700000030 owed ≡ true
+tried_in_the_next_turn = refl
 
 settles : act_at closing_again 3 (Close 1) true ≡ Settle 1
 settles = refl

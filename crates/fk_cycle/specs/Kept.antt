@@ -38,6 +38,11 @@ abbrev pub noted_begun : Purpose → Kept → Kept
 noted_begun (Open id) kept = if id == kept.id then record kept { open_runs = true } else kept
 noted_begun (Close id) kept = if id == kept.id then record kept { close = Some (not kept.open_runs); tried = true } else kept
 
+-- no child began: nothing is noted of an open, and a close was tried
+abbrev pub noted_not_begun : Purpose → Kept → Kept
+noted_not_begun (Open id) kept = kept
+noted_not_begun (Close id) kept = if id == kept.id then record kept { tried = true } else kept
+
 -- a child ended
 abbrev pub noted_ended : Purpose → Bool → ℕ → Kept → Kept
 noted_ended (Open id) good moment kept = if id == kept.id then record kept { open_runs = false } else kept

@@ -60,7 +60,7 @@ pub record Stands (machine : List Kept) (past : List Item) (ends : List ℕ) (li
   -- each child that runs is one of a record that is owed
   pub held : All (λ child. is_owed live (record_of child.purpose) ≡ true) (running past)
   -- while a clean close runs, the record's open doesn't
-  pub parted : All (λ status. status.close ≡ Some true → status.open_runs ≡ false) machine
+  pub parted : All (λ kept. kept.close ≡ Some true → kept.open_runs ≡ false) machine
 
 -- the obligations without that of one record
 abbrev pub without : ℕ → List Obligation → List Obligation

@@ -3,7 +3,7 @@ ghost use Rattle.std.specs.Prelude.{◌≡◌, ℕ, ◌<◌, ◌==◌, ◌&&◌,
 ghost use Rattle.std.specs.List.{list_any, All, Contains};
 ghost use Rattle.fk_base.specs.declared.purpose.Purpose.TheVariants.{Open, Close};
 ghost use Rattle.fk_trace.specs.Trace.{Item, Child, children, running, open_runs, close_runs};
-ghost use Rattle.fk_trace.specs.Trace.Event.{Began, Runs, PollFailed};
+ghost use Rattle.fk_trace.specs.Trace.Event.{Began, StartFailed, Runs, PollFailed};
 ghost use Rattle.fk_cycle.specs.Kept.{may_begin, has_running, is_kept};
 ghost use Rattle.fk_cycle.specs.Stands.{Obligation, Stands, is_owed, is_due};
 
@@ -40,15 +40,19 @@ impl Machine {
             → list_any (may_begin (Close id)) self.now.kept ≡ true }
     {}
 
-    /// A close that began is due no more in its turn, and each other record is due as before.
+    /// A close that was attempted is due no more in its turn, whether a child began or not, and each other record is due as
+    /// before.
     pub fn tries_each_once(&self)
-        ensures { (past : List Item) (ends : List ℕ) (live : List Obligation)
+        ensures began { (past : List Item) (ends : List ℕ) (live : List Obligation)
             → Stands self.now.kept past ends live
             → (id : ℕ) → list_any (may_begin (Close id)) self.now.kept ≡ true
             → (number : ℕ) → All (λ child. child.number < number) (children past)
             → (words : List (List ℕ)) (moments faults moment : ℕ) (owed : Obligation)
             → Contains live owed
             → is_due (record { event = Began number (Close id) words; moments = moments; faults = faults } ∷ past) ends moment owed
+            ≡ (not (id == owed.id) && is_due past ends moment owed) }
+        ensures failed { (past : List Item) (ends : List ℕ) (id : ℕ) (words : List (List ℕ)) (moments faults moment : ℕ) (owed : Obligation)
+            → is_due (record { event = StartFailed (Close id) words; moments = moments; faults = faults } ∷ past) ends moment owed
             ≡ (not (id == owed.id) && is_due past ends moment owed) }
     {}
 

@@ -2,23 +2,23 @@ ghost use Rattle.std.specs.Prelude.{◌≡◌, ℕ, ◌+◌, ◌==◌, if◌then
 ghost use Rattle.std.specs.List.{list_any, find, All, Contains};
 ghost use Rattle.std.specs.Option.{option_copied};
 ghost use Rattle.fk_trace.specs.Trace.{Item, Child, children, running};
-ghost use Rattle.fk_trace.specs.Trace.Event.{Turn, Began, Ended};
+ghost use Rattle.fk_trace.specs.Trace.Event.{Turn, Began, StartFailed, Ended};
 ghost use Rattle.fk_trace.specs.Orderly.{is_attempted};
-ghost use Rattle.fk_cycle.specs.Kept.{fresh, noted_turn, noted_begun, noted_ended, may_begin, has_running, is_kept, is_ready};
+ghost use Rattle.fk_cycle.specs.Kept.{fresh, noted_turn, noted_begun, noted_not_begun, noted_ended, may_begin, has_running, is_kept, is_ready};
 ghost use Rattle.fk_cycle.specs.Stands.{Obligation, Stands, IsNextDue};
 ghost use Rattle.fk_cycle.specs.Ranks.{first_of, IsFirstReady};
 ghost use Rattle.fk_cycle.specs.Acts.{act_at, act_by, owed_after, kept_after};
 
 use crate::Act;
-use crate::status::Status;
+use crate::kept::Kept;
 use fk_base::{Moment, NoMemory, Purpose};
 use std::alloc::Global;
 use std::marker::Model;
 
-/// Keeps one status for each record whose close is owed.
+/// Keeps what the trace says of each record whose close is owed.
 #[derive(Drop)]
 pub struct Machine {
-    statuses: Vec<Status>,
+    kept: Vec<Kept>,
 }
 
 impl Model for Machine {
@@ -27,7 +27,7 @@ impl Model for Machine {
 
     ghost Value = { Register };
 
-    ghost view = { λ m. record { kept = m.statuses.items; room = vec_capacity m.statuses - vec_len m.statuses } };
+    ghost view = { λ m. record { kept = m.kept.items; room = vec_capacity m.kept - vec_len m.kept } };
 }
 
 impl Machine {
@@ -37,7 +37,7 @@ impl Machine {
         ensures stands { Stands result.kept [] [] [] }
     {
         Machine {
-            statuses: Vec::new(alloc),
+            kept: Vec::new(alloc),
         }
     }
 
@@ -45,7 +45,7 @@ impl Machine {
     pub fn count(&self) -> usize
         ensures { result ≡ length self.now.kept }
     {
-        self.statuses.len()
+        self.kept.len()
     }
 
     /// Makes room for one more record.
@@ -54,7 +54,7 @@ impl Machine {
         ensures ok { OnOk result (1 ≤ self.new.room) }
         ensures room { self.old.room ≤ self.new.room }
     {
-        self.statuses.reserve(1)?;
+        self.kept.reserve(1)?;
         Ok(())
     }
 
@@ -69,7 +69,7 @@ impl Machine {
             → is_attempted past id ≡ false
             → Stands self.new.kept past ends (live ++ record { id = id; due = due } ∷ []) }
     {
-        self.statuses.push_reserved(Status::new(id, due));
+        self.kept.push_reserved(Kept::new(id, due));
     }
 
     /// A turn began: no close was tried in it yet.
@@ -99,6 +99,18 @@ impl Machine {
         self.note_begun(purpose);
     }
 
+    /// No child began for this purpose: a close counts as attempted in this turn.
+    pub fn not_begun(&mut self, purpose: Purpose)
+        ensures kept { self.new.kept ≡ map (noted_not_begun purpose) self.old.kept }
+        ensures room { self.new.room ≡ self.old.room }
+        ensures stands { (past : List Item) (ends : List ℕ) (live : List Obligation)
+            → Stands self.old.kept past ends live
+            → (words : List (List ℕ)) (moments faults : ℕ)
+            → Stands self.new.kept (record { event = StartFailed purpose words; moments = moments; faults = faults } ∷ past) ends live }
+    {
+        self.note_not_begun(purpose);
+    }
+
     /// The child for this purpose ended at this moment. Where its record is settled, it is no longer kept.
     pub fn ended(&mut self, purpose: Purpose, good: bool, moment: Moment) -> Act
         requires { list_any (has_running purpose) self.old.kept ≡ true }
@@ -120,9 +132,11 @@ impl Machine {
     }
 
     /// The record whose close has to be attempted first at this moment.
-    pub fn due(&self, moment: Moment) -> Option<u64>
+    pub fn due(&mut self, moment: Moment) -> Option<u64>
+        ensures kept { self.new.kept ≡ self.old.kept }
+        ensures room { self.new.room ≡ self.old.room }
         ensures stands { (past : List Item) (ends : List ℕ) (live : List Obligation)
-            → Stands self.now.kept past ends live
+            → Stands self.old.kept past ends live
             → IsNextDue past ends moment live result }
     {
         match self.first_ready(moment) {
@@ -135,7 +149,7 @@ impl Machine {
     pub fn keeps(&self, id: u64) -> bool
         ensures { result ≡ is_kept id self.now.kept }
     {
-        self.statuses.iter().any(|status| status.id() == id)
+        self.kept.iter().any(|kept| kept.id() == id)
     }
 
     /// A child for this purpose may begin: an open where neither an open nor a close of its record runs, and a close where
@@ -143,24 +157,22 @@ impl Machine {
     pub fn may_begin(&self, purpose: Purpose) -> bool
         ensures { result ≡ list_any (may_begin purpose) self.now.kept }
     {
-        self.statuses.iter().any(|status| status.may_begin(purpose))
+        self.kept.iter().any(|kept| kept.may_begin(purpose))
     }
 
     /// A child for this purpose runs.
     pub fn has_running(&self, purpose: Purpose) -> bool
         ensures { result ≡ list_any (has_running purpose) self.now.kept }
     {
-        self.statuses
-            .iter()
-            .any(|status| status.has_running(purpose))
+        self.kept.iter().any(|kept| kept.has_running(purpose))
     }
 
     fn first_ready(&self, moment: Moment) -> Option<Rank>
         ensures { IsFirstReady moment self.now.kept result }
     {
         let mut first = None;
-        for status in self.statuses.iter() {
-            first = earlier(first, status, moment);
+        for kept in self.kept.iter() {
+            first = earlier(first, kept, moment);
         }
         first
     }
@@ -169,8 +181,8 @@ impl Machine {
         ensures kept { self.new.kept ≡ map noted_turn self.old.kept }
         ensures room { self.new.room ≡ self.old.room }
     {
-        for status in self.statuses.iter_mut() {
-            status.turn();
+        for kept in self.kept.iter_mut() {
+            kept.turn();
         }
     }
 
@@ -178,8 +190,17 @@ impl Machine {
         ensures kept { self.new.kept ≡ map (noted_begun purpose) self.old.kept }
         ensures room { self.new.room ≡ self.old.room }
     {
-        for status in self.statuses.iter_mut() {
-            status.begun(purpose);
+        for kept in self.kept.iter_mut() {
+            kept.begun(purpose);
+        }
+    }
+
+    fn note_not_begun(&mut self, purpose: Purpose)
+        ensures kept { self.new.kept ≡ map (noted_not_begun purpose) self.old.kept }
+        ensures room { self.new.room ≡ self.old.room }
+    {
+        for kept in self.kept.iter_mut() {
+            kept.not_begun(purpose);
         }
     }
 
@@ -187,8 +208,8 @@ impl Machine {
         ensures kept { self.new.kept ≡ map (noted_ended purpose good moment) self.old.kept }
         ensures room { self.new.room ≡ self.old.room }
     {
-        for status in self.statuses.iter_mut() {
-            status.ended(purpose, good, moment);
+        for kept in self.kept.iter_mut() {
+            kept.ended(purpose, good, moment);
         }
     }
 
@@ -198,7 +219,7 @@ impl Machine {
     {
         if let Act::Settle(end) = act {
             let id = end.id();
-            self.statuses.retain(|status| status.id() != id);
+            self.kept.retain(|kept| kept.id() != id);
         }
     }
 
@@ -206,18 +227,18 @@ impl Machine {
         ensures { result ≡ act_by self.now.kept purpose good }
     {
         match purpose {
-            Purpose::Close(id) if good => match self.status_of(id) {
-                Some(status) => status.act(),
+            Purpose::Close(id) if good => match self.kept_for(id) {
+                Some(kept) => kept.act(),
                 None => Act::Nothing,
             },
             _ => Act::Nothing,
         }
     }
 
-    fn status_of(&self, id: u64) -> Option<&Status>
+    fn kept_for(&self, id: u64) -> Option<&Kept>
         ensures { option_copied result ≡ find (λ kept. kept.id == id) self.now.kept }
     {
-        self.statuses.iter().find(|status| status.id() == id)
+        self.kept.iter().find(|kept| kept.id() == id)
     }
 }
 
@@ -229,15 +250,15 @@ struct Rank {
 }
 
 /// The first of the records so far, and of this one where a close of it may be attempted.
-fn earlier(first: Option<Rank>, status: &Status, moment: Moment) -> Option<Rank>
-    ensures { result ≡ (if is_ready moment status.now then first_of first (record { due = status.now.due; id = status.now.id }) else first) }
+fn earlier(first: Option<Rank>, kept: &Kept, moment: Moment) -> Option<Rank>
+    ensures { result ≡ (if is_ready moment kept.now then first_of first (record { due = kept.now.due; id = kept.now.id }) else first) }
 {
-    if !status.is_ready(moment) {
+    if !kept.is_ready(moment) {
         return first;
     }
     let rank = Rank {
-        due: status.due(),
-        id: status.id(),
+        due: kept.due(),
+        id: kept.id(),
     };
     match first {
         Some(other) if other.due < rank.due || (other.due == rank.due && other.id < rank.id) =>

@@ -9,6 +9,7 @@ enum Step {
     Opened(u64, u64),
     Turn,
     Begun(Purpose),
+    NotBegun(Purpose),
     Ended(Purpose, bool, u64, Answer),
     Due(u64, Option<u64>),
 }
@@ -44,6 +45,7 @@ fn play(rt: &impl Abort, machine: &mut Machine, step: Step, row: &str) -> Result
             assert!(rt; machine.may_begin(purpose), "{row}");
             machine.begun(purpose);
         }
+        Step::NotBegun(purpose) => machine.not_begun(purpose),
         Step::Ended(purpose, good, seconds, want) => {
             assert!(rt; machine.has_running(purpose), "{row}");
             let act = machine.ended(purpose, good, moment(seconds)?);
@@ -62,7 +64,7 @@ const CLOSE: Purpose = Purpose::Close(1);
 
 #[test]
 fn plays_each_row(rt: HostRuntime) -> Result<(), Fail> {
-    let rows: [(&str, &[Step]); 8] = [
+    let rows: [(&str, &[Step]); 9] = [
         (
             "two records with one due start in the order of their numbers",
             &[
@@ -102,6 +104,21 @@ fn plays_each_row(rt: HostRuntime) -> Result<(), Fail> {
                 Step::Due(1700000035, None),
                 Step::Due(1700000044, None),
                 Step::Due(1700000045, Some(1)),
+            ],
+        ),
+        (
+            "after a start that failed a close is not given again in that turn, and is in the next",
+            &[
+                Step::Opened(1, 1700000030),
+                Step::Turn,
+                Step::NotBegun(OPEN),
+                Step::Due(1700000030, Some(1)),
+                Step::NotBegun(CLOSE),
+                Step::Due(1700000030, None),
+                Step::Turn,
+                Step::Due(1700000030, Some(1)),
+                Step::Begun(CLOSE),
+                Step::Due(1700000030, None),
             ],
         ),
         (

@@ -4,3 +4,10 @@ mod Mediums
 mod Moments
 mod MemoryCalls
 mod MediumRow
+mod Fates
+mod MemoryHosts
+mod Commands
+mod Queues
+mod Unscripted
+pub mod Running
+mod HostRow

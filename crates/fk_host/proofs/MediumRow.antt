@@ -1,6 +1,6 @@
 -- A worked row: of three bytes, all of them on the disk, a write of two at the third goes one past the end. Before its sync a
 -- crash leaves the first two as they were and any byte behind them, or any two; after it, the four bytes that a read gives.
-use Rattle.std.proofs.Common.{◌≡◌, ◌⊎◌, ℕ, zero, suc, get_or, ◌+◌, ◌<◌, ◌≤◌, true, false, List, [], ◌∷◌, length, refl, inl, inr, ap, ◌∙◌, sym, arith}
+use Rattle.std.proofs.Common.{◌≡◌, ◌⊎◌, ℕ, zero, suc, get_or, ◌<◌, ◌≤◌, false, List, [], ◌∷◌, refl, inl, inr, arith}
 use Rattle.fk_host.specs.Medium.{Medium, at_rest, MayHold, after_write, after_sync}
 
 abbrev written : Medium

@@ -1,12 +1,12 @@
 -- What may be left of an area in memory, call by call.
-use Rattle.std.proofs.Common.{◌≡◌, ◌⊎◌, ℕ, zero, suc, ◌+◌, ◌-◌, ◌<◌, ◌≤◌, min, max, Bool, true, false, cond, ◌&&◌, leb, ltb, List, [], ◌∷◌, ◌++◌, map, length, take, drop, get_or, refl, inl, inr, ap, ◌∙◌, sym, subst, arith, rules}
-use Rattle.std.specs.List.{AllByRecursion, range_with_len}
+use Rattle.std.proofs.Common.{◌≡◌, ◌⊎◌, ℕ, ◌+◌, ◌-◌, ◌<◌, ◌≤◌, min, max, Bool, true, false, cond, ◌&&◌, leb, ltb, List, ◌++◌, map, length, take, drop, get_or, refl, inl, inr, ap, ◌∙◌, sym, subst, arith}
+use Rattle.std.specs.List.{range_with_len}
 use Rattle.std.proofs.lemmas.Bool.Decides.{nat_tests}
 use Rattle.std.proofs.lemmas.Bool.{cases_lt}
-use Rattle.std.proofs.lemmas.List.{places, same_lists, ext_get_or, length-take, length-drop, length-append, get_or-append_right, get_or_append_left, get_or-take, get_or-drop, take_all, take_at}
+use Rattle.std.proofs.lemmas.List.{ext_get_or, length-take, length-drop, length-append, get_or-append_right, get_or_append_left, get_or-take, get_or-drop, take_all, take_at}
 use Rattle.std.proofs.lemmas.List.FromFn.{length-map-range_with_len, get_or-map-range_with_len}
 use Rattle.fk_host.specs.Disk.{Torn, Cut}
-use Rattle.fk_host.specs.Medium.{Medium, Range, IsOutside, MayHold, at_rest, overwritten, after_write, after_cut, after_sync}
+use Rattle.fk_host.specs.Medium.{Medium, MayHold, at_rest, after_write, after_cut, after_sync}
 use Rattle.fk_host.specs.Sound.{IsSound}
 
 -- the bytes of an image before a write: in its range they are those that are on the disk

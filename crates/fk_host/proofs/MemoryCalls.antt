@@ -1,5 +1,5 @@
 -- What the trait asks of each call of a disk in memory, from what the call does to the host's record.
-use Rattle.std.proofs.Common.{◌≡◌, ◌⊎◌, ℕ, ◌+◌, ◌<◌, ◌≤◌, ◌||◌, max, min, Bool, true, false, List, [], ◌∷◌, ◌++◌, length, take, drop, refl, inl, inr, ap, ◌∙◌, sym, subst, arith, if◌then◌else◌, Option, Some, None, Result, Ok, Err, is_err, OnOk, OnErr, IfOk, IfSome, ltb}
+use Rattle.std.proofs.Common.{◌≡◌, ℕ, ◌≤◌, ◌||◌, Bool, true, false, List, [], ◌∷◌, ◌++◌, length, take, refl, ap, ◌∙◌, sym, subst, arith, if◌then◌else◌, Some, None, Result, Ok, Err, is_err, OnOk, OnErr, IfOk, IfSome, ltb}
 use Rattle.std.specs.Option.{ForSome}
 use Rattle.std.proofs.lemmas.Bool.Decides.{nat_tests}
 use Rattle.fk_base.specs.declared.memory.Failed.{Failed}
@@ -19,36 +19,41 @@ not_both true holds fails = cc
 not_both false holds fails = cc
 
 -- a fact of what is told before and after, where the host is not short
-if_told : (old new : Memory) (Fact : Told → Told → Type 0)
-    → (new.is_short ≡ false → (old.is_short ≡ false) × Fact (told_after [] old.first old.calls) (told_after [] new.first new.calls))
+pub if_told : (old new : Memory) (Fact : Told → Told → Type 0)
+    → (new.is_short ≡ false → (old.is_short ≡ false) × Fact (told_after old.trace old.first old.calls) (told_after new.trace new.first new.calls))
     → IfTold (told_of old) (told_of new) Fact
 if_told old new Fact fact =
-    elim new.is_short as (λ b. (b ≡ false → (old.is_short ≡ false) × Fact (told_after [] old.first old.calls) (told_after [] new.first new.calls))
-    → IfTold (told_of old) (if b then None else Some (told_after [] new.first new.calls)) Fact) [
+    elim new.is_short as (λ b. (b ≡ false → (old.is_short ≡ false) × Fact (told_after old.trace old.first old.calls) (told_after new.trace new.first new.calls))
+    → IfTold (told_of old) (if b then None else Some (told_after new.trace new.first new.calls)) Fact) [
       | true ↦ λ f. tt
       | false ↦ λ f. rw (f refl).0 (f refl).1
     ] fact
 
 -- a call that leaves the host able to tell has been kept
 kept : (old new : Memory) (call : Call) (failed : Bool) → new ≡ after_disk_call call failed new.is_short old → new.is_short ≡ false
-    → (old.is_short ≡ false) × (new.first ≡ old.first) × (new.calls ≡ old.calls ++ call ∷ []) × (new.faults ≡ (if failed then counted old.faults else old.faults))
+    → (old.is_short ≡ false) × (new.first ≡ old.first) × (new.calls ≡ old.calls ++ call ∷ []) × (new.faults ≡ (if failed then counted old.faults else old.faults)) × (new.trace ≡ old.trace)
 kept old new call failed state told =
     let same : new ≡ after_disk_call call failed false old = subst (λ (b : Bool). new ≡ after_disk_call call failed b old) told state in
-    (sym (ap (λ h. h.is_short) same) ∙ told, ap (λ h. h.first) same, ap (λ h. h.calls) same, ap (λ h. h.faults) same)
+    (sym (ap (λ h. h.is_short) same) ∙ told, ap (λ h. h.first) same, ap (λ h. h.calls) same, ap (λ h. h.faults) same, ap (λ h. h.trace) same)
 
 called : (old new : Memory) (call : Call) (failed : Bool) (Reads Leaves : Areas → Areas → Type 0)
     → new ≡ after_disk_call call failed new.is_short old
-    → (new.is_short ≡ false → old.is_short ≡ false → Passes Reads Leaves (MayLeave old.first old.calls) (MayLeave old.first (old.calls ++ call ∷ [])) (told_after [] old.first old.calls) (told_after [] old.first (old.calls ++ call ∷ [])))
+    → (new.is_short ≡ false → old.is_short ≡ false → Passes Reads Leaves (MayLeave old.first old.calls) (MayLeave old.first (old.calls ++ call ∷ [])) (told_after old.trace old.first old.calls) (told_after old.trace old.first (old.calls ++ call ∷ [])))
     → Calls told_of leaves_of old new Reads Leaves
 called old new call failed Reads Leaves state passes =
     if_told old new (Passes Reads Leaves (leaves_of old) (leaves_of new)) (λ told.
     let k = kept old new call failed state told in
-    (k.0, rw (k.1, k.2) (passes told k.0)))
+    (k.0, rw (k.1, k.2, k.4) (passes told k.0)))
+
+-- a call of the disk leaves the children
+above_same : (call : Call) (failed is_short : Bool) (old : Memory) → above_of (after_disk_call call failed is_short old) ≡ above_of old
+above_same call failed true old = refl
+above_same call failed false old = refl
 
 pub leaves_host : (old new : Memory) (call : Call) (failed : Bool) → new ≡ after_disk_call call failed new.is_short old → LeavesHost told_of above_of old new
 leaves_host old new call failed state = record {
-  trace = if_told old new (λ before after. after.trace ≡ before.trace) (λ told. ((kept old new call failed state told).0, refl));
-  rest = refl;
+  trace = if_told old new (λ before after. after.trace ≡ before.trace) (λ told. let k = kept old new call failed state told in (k.0, k.4));
+  rest = ap above_of state ∙ above_same call failed new.is_short old;
 }
 
 pub has_cause : {T : Type 0} (old new : Memory) (call : Call) (failed : Bool) (result : Result T Failed)
@@ -68,7 +73,7 @@ err_failed false b is told = cc
 within : (old : Memory) (of : Area) (at : ℕ) → ForSome (told_of old) (λ now. at ≤ length (area_of of now.areas)) → old.is_short ≡ false → at ≤ length (medium_after old.first old.calls of).reads
 within old of at asked told =
     let here : at ≤ length (area_of of (areas_after old.first old.calls)) =
-    asked (told_after [] old.first old.calls) (ap (λ (b : Bool). if b then None else Some (told_after [] old.first old.calls)) told) in
+    asked (told_after old.trace old.first old.calls) (ap (λ (b : Bool). if b then None else Some (told_after old.trace old.first old.calls)) told) in
     subst (λ (bytes : List ℕ). at ≤ length bytes) (area_reads old.first old.calls of) here
 
 pub write_ok : {T : Type 0} (old new : Memory) (of : Area) (at : ℕ) (bytes : List ℕ) (failed : Bool) (result : Result T Failed)
@@ -80,7 +85,7 @@ write_ok old new of at bytes failed (Ok x) asked says state =
     let fine : failed ≡ false = ok_not_failed failed new.is_short says in
     called old new (Write of at bytes false) false (InArea of (Written at bytes)) (InArea of (Torn at (length bytes)))
     (subst (λ (b : Bool). new ≡ after_disk_call (Write of at bytes b) b new.is_short old) fine state)
-    (λ told before. write_passes [] old.first old.calls of at bytes (within old of at asked before))
+    (λ told before. write_passes old.trace old.first old.calls of at bytes (within old of at asked before))
 
 pub write_err : {T : Type 0} (old new : Memory) (of : Area) (at : ℕ) (bytes : List ℕ) (failed : Bool) (result : Result T Failed)
     → ForSome (told_of old) (λ now. at ≤ length (area_of of now.areas)) → is_err result ≡ (failed || new.is_short)
@@ -89,7 +94,7 @@ pub write_err : {T : Type 0} (old new : Memory) (of : Area) (at : ℕ) (bytes : 
 write_err old new of at bytes failed (Ok x) asked says state = tt
 write_err old new of at bytes failed (Err e) asked says state =
     called old new (Write of at bytes failed) failed (InArea of (Torn at (length bytes))) (InArea of (Torn at (length bytes))) state
-    (λ told before. rw (err_failed failed new.is_short says told) (failed_write_passes [] old.first old.calls of at bytes (within old of at asked before)))
+    (λ told before. rw (err_failed failed new.is_short says told) (failed_write_passes old.trace old.first old.calls of at bytes (within old of at asked before)))
 
 pub cut_ok : {T : Type 0} (old new : Memory) (of : Area) (len : ℕ) (failed : Bool) (result : Result T Failed)
     → is_err result ≡ (failed || new.is_short) → new ≡ after_disk_call (Cuts of len failed) failed new.is_short old
@@ -99,7 +104,7 @@ cut_ok old new of len failed (Ok x) says state =
     let fine : failed ≡ false = ok_not_failed failed new.is_short says in
     called old new (Cuts of len false) false (InArea of (λ old new. new ≡ take len old)) (InArea of (Cut len))
     (subst (λ (b : Bool). new ≡ after_disk_call (Cuts of len b) b new.is_short old) fine state)
-    (λ told before. cut_passes [] old.first old.calls of len)
+    (λ told before. cut_passes old.trace old.first old.calls of len)
 
 pub cut_err : {T : Type 0} (old new : Memory) (of : Area) (len : ℕ) (failed : Bool) (result : Result T Failed)
     → is_err result ≡ (failed || new.is_short) → new ≡ after_disk_call (Cuts of len failed) failed new.is_short old
@@ -107,7 +112,7 @@ pub cut_err : {T : Type 0} (old new : Memory) (of : Area) (len : ℕ) (failed : 
 cut_err old new of len failed (Ok x) says state = tt
 cut_err old new of len failed (Err e) says state =
     called old new (Cuts of len failed) failed (InArea of (Cut len)) (InArea of (Cut len)) state
-    (λ told before. rw (err_failed failed new.is_short says told) (failed_cut_passes [] old.first old.calls of len))
+    (λ told before. rw (err_failed failed new.is_short says told) (failed_cut_passes old.trace old.first old.calls of len))
 
 pub sync_ok : {T : Type 0} (old new : Memory) (of : Area) (failed : Bool) (result : Result T Failed)
     → is_err result ≡ (failed || new.is_short) → new ≡ after_disk_call (Sync of failed) failed new.is_short old
@@ -119,8 +124,8 @@ sync_ok old new of failed (Ok x) says state =
     let all : Calls told_of leaves_of old new Same (Synced of (areas_after new.first new.calls)) =
     called old new (Sync of false) false Same (Synced of (areas_after new.first new.calls)) same (λ told before.
     let k = kept old new (Sync of false) false same told in
-    rw (k.1, k.2) (sync_passes [] old.first old.calls of)) in
-    elim new.is_short as (λ b. IfSome (if b then None else Some (told_after [] new.first new.calls)) (λ (now : Told). Calls told_of leaves_of old new Same (Synced of now.areas))) [ true ↦ tt | false ↦ all ]
+    rw (k.1, k.2) (sync_passes old.trace old.first old.calls of)) in
+    elim new.is_short as (λ b. IfSome (if b then None else Some (told_after new.trace new.first new.calls)) (λ (now : Told). Calls told_of leaves_of old new Same (Synced of now.areas))) [ true ↦ tt | false ↦ all ]
 
 pub sync_err : {T : Type 0} (old new : Memory) (of : Area) (failed : Bool) (result : Result T Failed)
     → is_err result ≡ (failed || new.is_short) → new ≡ after_disk_call (Sync of failed) failed new.is_short old
@@ -128,10 +133,10 @@ pub sync_err : {T : Type 0} (old new : Memory) (of : Area) (failed : Bool) (resu
 sync_err old new of failed (Ok x) says state = tt
 sync_err old new of failed (Err e) says state =
     called old new (Sync of failed) failed Same Same state
-    (λ told before. rw (err_failed failed new.is_short says told) (failed_sync_passes [] old.first old.calls of))
+    (λ told before. rw (err_failed failed new.is_short says told) (failed_sync_passes old.trace old.first old.calls of))
 
 pub other_called : (old new : Memory) (failed : Bool) → new ≡ after_disk_call Other failed new.is_short old → Calls told_of leaves_of old new Same Same
-other_called old new failed state = called old new Other failed Same Same state (λ told before. other_passes [] old.first old.calls)
+other_called old new failed state = called old new Other failed Same Same state (λ told before. other_passes old.trace old.first old.calls)
 
 -- what holds of an answer and what a read gave holds of it and what a read gives
 pub ok_told : {T : Type 0} (result : Result T Failed) (Fact : T → Areas → Type 0) (old new : Memory) (failed : Bool)
@@ -141,8 +146,8 @@ ok_told (Err e) Fact old new failed state fact = tt
 ok_told (Ok x) Fact old new failed state fact =
     let here : new.is_short ≡ false → Fact x (areas_after new.first new.calls) = λ told.
     let k = kept old new Other failed state told in
-    rw (k.1, k.2) (subst (Fact x) (sym (other_passes [] old.first old.calls).reads) fact) in
-    elim new.is_short as (λ b. (b ≡ false → Fact x (areas_after new.first new.calls)) → IfSome (if b then None else Some (told_after [] new.first new.calls)) (λ (now : Told). Fact x now.areas)) [
+    rw (k.1, k.2) (subst (Fact x) (sym (other_passes old.trace old.first old.calls).reads) fact) in
+    elim new.is_short as (λ b. (b ≡ false → Fact x (areas_after new.first new.calls)) → IfSome (if b then None else Some (told_after new.trace new.first new.calls)) (λ (now : Told). Fact x now.areas)) [
       | true ↦ λ f. tt
       | false ↦ λ f. f refl
     ] here
@@ -189,4 +194,4 @@ pub reads_kept : (old new : Memory) (failed : Bool) (present : Areas) → false 
 reads_kept old new failed present says state kept_now =
     let told : new.is_short ≡ false = second_false failed new.is_short says in
     let k = kept old new Other failed state told in
-    kept_now told ∙ ap (λ first. areas_after first new.calls) k.1 ∙ ap (areas_after old.first) k.2 ∙ (other_passes [] old.first old.calls).reads
+    kept_now told ∙ ap (λ first. areas_after first new.calls) k.1 ∙ ap (areas_after old.first) k.2 ∙ (other_passes old.trace old.first old.calls).reads

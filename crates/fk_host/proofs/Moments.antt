@@ -1,5 +1,5 @@
 -- What each call of a host in memory does to what a read gives and to what a crash may leave.
-use Rattle.std.proofs.Common.{◌≡◌, ◌⊎◌, ◌↔◌, ℕ, ◌+◌, ◌-◌, ◌<◌, ◌≤◌, min, max, Bool, true, false, List, [], ◌∷◌, ◌++◌, length, take, drop, get_or, refl, inl, inr, ap, ◌∙◌, sym, subst, arith, if◌then◌else◌}
+use Rattle.std.proofs.Common.{◌≡◌, ℕ, ◌+◌, ◌≤◌, min, Bool, true, false, List, [], ◌∷◌, ◌++◌, length, take, drop, refl, ap, ◌∙◌, sym, subst, arith, if◌then◌else◌}
 use Rattle.std.proofs.lemmas.List.{length_push, take-append-le, take_all}
 use Rattle.fk_trace.specs.Trace.{Item}
 use Rattle.fk_host.specs.declared.disk.Area.{Area}

@@ -1,5 +1,5 @@
 -- The disk under a journal: three areas of bytes, what a call does to what a read gives, and what a crash may leave.
-use Rattle.std.specs.Prelude.{◌≡◌, ◌⊎◌, ◌↔◌, ℕ, ◌+◌, ◌<◌, ◌≤◌, min, max, List, ◌++◌, length, take, drop, slice_index, Option, Some, IfSome, IsSomeAnd}
+use Rattle.std.specs.Prelude.{◌≡◌, ◌⊎◌, ◌↔◌, ℕ, ◌+◌, ◌<◌, ◌≤◌, min, max, List, ◌++◌, length, take, drop, slice_index, Option, IfSome, IsSomeAnd}
 use Rattle.fk_trace.specs.Trace.{Item, Child}
 use Rattle.fk_host.specs.declared.disk.Area.{Area}
 use Rattle.fk_host.specs.declared.disk.Area.TheVariants.{Head, One, Two}

@@ -7,3 +7,11 @@ pub mod Supply
 pub mod Stock
 pub mod Files
 pub mod Shelf
+pub mod Host
+pub mod Children
+pub mod HostRecord
+pub mod Feed
+pub mod Link
+pub mod Queue
+pub mod Outbox
+pub mod Pool

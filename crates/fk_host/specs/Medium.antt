@@ -2,8 +2,11 @@
 -- length is between the least and the greatest since the last of them, and all other bytes stay.
 use Rattle.std.specs.Prelude.{◌≡◌, ◌⊎◌, ℕ, ◌+◌, ◌==◌, ◌||◌, nat_lt, ◌<◌, ◌≤◌, min, max, Bool, true, false, List, [], ◌∷◌, ◌++◌, length, take, drop, slice_index, if◌then◌else◌, Option, Some, None}
 use Rattle.std.specs.List.{AllByRecursion, list_any}
+use Rattle.fk_trace.specs.Trace.{Event, Item}
 use Rattle.fk_host.specs.Count.{counted}
 use Rattle.fk_host.specs.Disk.{Areas, Told, Above, area_of}
+use Rattle.fk_host.specs.Host.{items_of, above_by}
+use Rattle.fk_host.specs.Children.{Children, above_children, children_by}
 use Rattle.fk_host.specs.declared.disk.Area.{Area}
 use Rattle.fk_host.specs.declared.disk.Area.TheVariants.{Head, One, Two}
 use Rattle.fk_host.specs.declared.memory_host.Call.{Call}
@@ -110,20 +113,24 @@ pub record Memory : Type 0 where
   pub disk_calls : ℕ
   pub failing : List ℕ
   pub faults : ℕ
-  -- It couldn't grow for its own record. From then on it tells nothing, and each call of the disk fails.
+  -- what the calls for turns and children have brought, and the children
+  pub trace : List Item
+  pub children : Children
+  -- It couldn't grow for its own record. From then on it tells nothing, each call of the disk and each poll fails, and no child is
+  -- begun.
   pub is_short : Bool
 
 -- what the host tells
 abbrev pub told_of : Memory → Option Told
-told_of host = if host.is_short then None else Some (record { areas = areas_after host.first host.calls; moments = length host.calls; trace = [] })
+told_of host = if host.is_short then None else Some (record { areas = areas_after host.first host.calls; moments = length host.calls; trace = host.trace })
 
 -- what a crash at each of its moments may leave
 abbrev pub leaves_of : Memory → ℕ → Areas → Type 0
 leaves_of host = MayLeave host.first host.calls
 
--- what it says of children: it has none
+-- what it says of its children, whether it tells or not
 abbrev pub above_of : Memory → Above
-above_of host = record { running = []; faults = 0; last_child = 0 }
+above_of host = above_children host.children
 
 -- the next call of the disk is to fail
 abbrev pub fails_next : Memory → Bool
@@ -141,6 +148,17 @@ after_disk_call call failed is_short host =
       calls = host.calls ++ call ∷ [];
       disk_calls = host.disk_calls + 1;
       faults = if failed then counted host.faults else host.faults;
+    }
+
+-- The host after a call above its disk that brought this. It may be short then, and counts only a fault of the call; or else the
+-- call is kept.
+abbrev pub after_call_above : Option Event → Bool → Memory → Memory
+after_call_above event is_short host =
+    if is_short then record host { is_short = true; children = record host.children { faults = (above_by event (above_of host)).faults } }
+    else record host {
+      calls = host.calls ++ Other ∷ [];
+      trace = host.trace ++ items_of event (length host.calls + 1) host.faults;
+      children = children_by event host.children;
     }
 
 -- what a read gives after a call, from what it gave before

@@ -1,6 +1,6 @@
 -- What a read gives of a disk in memory is one of its images. It stands here, and not beside the other proofs, since the trait
 -- asks it of the host in memory; nobody has to read on.
-use Rattle.std.proofs.Common.{◌≡◌, ◌⊎◌, ℕ, ◌+◌, ◌<◌, ◌≤◌, min, max, Bool, true, false, List, [], ◌∷◌, ◌++◌, length, take, drop, get_or, refl, inl, inr, ap, ◌∙◌, sym, subst, arith, if◌then◌else◌, Some, None, IfSome}
+use Rattle.std.proofs.Common.{◌≡◌, ◌⊎◌, ℕ, ◌+◌, ◌<◌, ◌≤◌, min, max, Bool, true, false, List, [], ◌∷◌, ◌++◌, length, take, drop, get_or, refl, inl, inr, ◌∙◌, sym, subst, arith, if◌then◌else◌, Some, None, IfSome}
 use Rattle.std.proofs.lemmas.List.{places, length-take, length-drop, length-append, get_or-take, take_all}
 use Rattle.fk_host.specs.declared.disk.Area.{Area}
 use Rattle.fk_host.specs.declared.disk.Area.TheVariants.{Head, One, Two}
@@ -120,7 +120,7 @@ read_is_left first calls = now_leaves first calls (areas_after first calls) (λ 
 
 pub told_is_left : (host : Memory) → IfSome (told_of host) (λ now. leaves_of host now.moments now.areas)
 told_is_left host =
-    elim host.is_short as (λ b. IfSome (if b then None else Some (record { areas = areas_after host.first host.calls; moments = length host.calls; trace = [] })) (λ (now : Told). MayLeave host.first host.calls now.moments now.areas)) [
+    elim host.is_short as (λ b. IfSome (if b then None else Some (record { areas = areas_after host.first host.calls; moments = length host.calls; trace = host.trace })) (λ (now : Told). MayLeave host.first host.calls now.moments now.areas)) [
       | true ↦ tt
       | false ↦ read_is_left host.first host.calls
     ]

@@ -1,15 +1,22 @@
-//! A host in memory: its disk keeps each call, so that what a crash at any moment may leave can be told.
-ghost use Rattle.std.specs.Prelude.{◌≡◌, ℕ, ◌+◌, ◌^◌, ◌≤◌, ◌||◌, ◌==◌, min, true, false, [], ◌∷◌, ◌++◌, if◌then◌else◌, length, take, drop, is_err, IfOk, OnErr, OnOk, IfSome};
+//! A host in memory: its disk keeps each call, so that what a crash at any moment may leave can be told, and its children fare as
+//! they were scripted.
+ghost use Rattle.std.specs.Prelude.{◌≡◌, ℕ, ◌+◌, ◌^◌, ◌<◌, ◌≤◌, Some, IsTrue, ◌||◌, ◌==◌, min, true, false, [], ◌∷◌, ◌++◌, if◌then◌else◌, length, take, drop, is_err, IfOk, OnErr, OnOk, IfSome};
 ghost use Rattle.std.specs.List.{list_any};
 ghost use Rattle.std.specs.Option.{ForSome};
 ghost use Rattle.fk_host.specs.Count.{counted, HasCause};
 ghost use Rattle.fk_host.specs.Disk.{area_of, Written, Torn, Cut, Same, InArea, Synced, Calls, LeavesHost};
-ghost use Rattle.fk_host.specs.Medium.{Medium, medium_after, areas_after, after_call, overwritten, MayHold, told_of, leaves_of, above_of, fails_next, fails_to_write, after_disk_call, reads_after, texts};
+ghost use Rattle.fk_host.specs.Medium.{Medium, medium_after, areas_after, after_call, overwritten, MayHold, told_of, leaves_of, above_of, fails_next, fails_to_write, after_disk_call, after_call_above, reads_after, texts};
+ghost use Rattle.fk_trace.specs.Trace.Event.{Turn};
+ghost use Rattle.fk_host.specs.Host.{brought_by_start, brought_by_poll, CallsAbove, above_after, above_by, is_running};
+ghost use Rattle.fk_host.specs.Children.{start_answer, poll_answer};
+ghost use Rattle.fk_host.specs.HostRecord.{event_of};
 ghost use Rattle.fk_host.specs.declared.memory_host.Call.TheVariants.{Other, Write as Writes, Cut as Cuts, Sync as Syncs};
 ghost use Rattle.fk_host.specs.Sound.{told_is_left};
 
-use crate::{Area, Disk};
-use fk_base::{Bytes, Failed, NoMemory};
+use crate::memory_children::MemChildren;
+use crate::memory_trace::{HostEvent, KeptItem};
+use crate::{Area, ChildId, Disk, Host, StartErr, StartScript};
+use fk_base::{Bytes, Failed, NoMemory, Purpose, Words};
 use std::alloc::Global;
 use std::marker::Model;
 
@@ -112,7 +119,8 @@ fn overwrite(bytes: &mut Vec<u8>, place: u64, piece: &[u8]) -> Result<(), NoMemo
     Ok(())
 }
 
-/// A host in memory. Its disk tells what it gives, and what a crash at each of its moments may leave.
+/// A host in memory. It tells its trace, what its disk gives, and what a crash at each of its moments may leave. Its children are
+/// numbered 1, 2, 3 and so on.
 #[derive(Drop)]
 pub struct MemHost {
     alloc: Global,
@@ -123,18 +131,21 @@ pub struct MemHost {
     disk_calls: u64,
     failing: Vec<u64>,
     faults: u64,
+    trace: Vec<KeptItem>,
+    children: MemChildren,
     is_short: bool,
 }
 
 impl Model for MemHost {
     ghost use Rattle.std.specs.Prelude.{◌≡◌, ◌≤◌, false, length};
     ghost use Rattle.fk_host.specs.Medium.{Memory, texts, areas_after};
+    ghost use Rattle.fk_host.specs.HostRecord.{children_of, CountsWithin};
 
     ghost Value = { Memory };
 
-    ghost view = { λ h. record { first = texts h.first; calls = h.calls.items; disk_calls = h.disk_calls; failing = h.failing.items; faults = h.faults; is_short = h.is_short } };
+    ghost view = { λ h. record { first = texts h.first; calls = h.calls.items; disk_calls = h.disk_calls; failing = h.failing.items; faults = h.faults; trace = h.trace.items; children = children_of h.children; is_short = h.is_short } };
 
-    ghost invariant = { λ h. (h.is_short ≡ false → texts h.present ≡ areas_after (texts h.first) h.calls.items) × (h.disk_calls ≤ length h.calls.items) };
+    ghost invariant = { λ h. (h.is_short ≡ false → texts h.present ≡ areas_after (texts h.first) h.calls.items) × (h.disk_calls ≤ length h.calls.items) × CountsWithin h.children (length h.calls.items) };
 }
 
 impl MemHost {
@@ -146,6 +157,8 @@ impl MemHost {
           disk_calls = 0;
           failing = [];
           faults = 0;
+          trace = [];
+          children = record { script = []; turns = 0; running = []; begun = 0; polls = 0; failing = []; faults = 0 };
           is_short = false;
         }) }
     {
@@ -157,6 +170,8 @@ impl MemHost {
             disk_calls: 0,
             failing: Vec::new(alloc),
             faults: 0,
+            trace: Vec::new(alloc),
+            children: MemChildren::new(alloc),
             is_short: false,
         })
     }
@@ -170,6 +185,24 @@ impl MemHost {
         Ok(())
     }
 
+    /// Adds how a start fares, behind what was added before. Past all of these each child begins, and ends well after one turn.
+    pub fn script(&mut self, item: StartScript) -> Result<(), NoMemory>
+        ensures ok { OnOk result (self.new ≡ record self.old { children = record self.old.children { script = self.old.children.script ++ item ∷ [] } }) }
+        ensures err { OnErr result (self.new ≡ self.old) }
+    {
+        self.children.script.push(item)?;
+        Ok(())
+    }
+
+    /// Makes the poll of this number fail, counted from 1.
+    pub fn fail_poll(&mut self, call: u64) -> Result<(), NoMemory>
+        ensures ok { OnOk result (self.new ≡ record self.old { children = record self.old.children { failing = self.old.children.failing ++ call ∷ [] } }) }
+        ensures err { OnErr result (self.new ≡ self.old) }
+    {
+        self.children.failing.push(call)?;
+        Ok(())
+    }
+
     /// How many calls of the host were kept. After each of them a crash may come.
     pub fn moments(&self) -> u64
         ensures { result ≡ length self.now.calls }
@@ -177,7 +210,8 @@ impl MemHost {
         self.calls.len() as u64
     }
 
-    /// Whether the host couldn't grow for its own record. It then tells nothing more, and each further call fails.
+    /// Whether the host couldn't grow for its own record. It then tells nothing more, each further call of the disk and each poll
+    /// fails, and each start answers want of memory.
     pub fn is_short(&self) -> bool
         ensures { result ≡ self.now.is_short }
     {
@@ -309,6 +343,58 @@ impl MemHost {
     }
 }
 
+impl MemHost {
+    /// Keeps a call above the disk, with what it brought.
+    fn keep(&mut self, event: HostEvent) -> Result<(), NoMemory>
+        ensures result { is_err result ≡ self.new.is_short }
+        ensures state { self.new ≡ (if self.new.is_short then record self.old { is_short = true } else after_call_above (Some (event_of event)) false self.old) }
+    {
+        if self.is_short
+            || self.calls.reserve(1).is_err()
+            || self.trace.reserve(1).is_err()
+            || self.children.running.reserve(1).is_err()
+        {
+            self.is_short = true;
+            return Err(NoMemory);
+        }
+        self.children.note(&event);
+        self.trace.push_reserved(KeptItem {
+            event,
+            moments: self.calls.len() as u64 + 1,
+            faults: self.faults,
+        });
+        self.calls.push_reserved(Call::Other);
+        Ok(())
+    }
+
+    fn begin(&mut self, purpose: Purpose, words: &Words) -> Result<ChildId, StartErr>
+        ensures answer { result ≡ start_answer self.new.is_short self.old.children }
+        ensures state { self.new ≡ after_call_above (brought_by_start purpose words.now result) self.new.is_short self.old }
+    {
+        let answer = self.children.next_start();
+        match HostEvent::of_start(self.alloc, purpose, words, answer) {
+            Ok(event) => self.keep(event)?,
+            Err(NoMemory) => {
+                self.is_short = true;
+                return Err(StartErr::NoMemory);
+            }
+        }
+        answer
+    }
+
+    fn ask(&mut self, child: ChildId) -> Result<Option<bool>, Failed>
+        ensures answer { result ≡ poll_answer self.new.is_short child.0 self.old.children }
+        ensures state { self.new ≡ after_call_above (brought_by_poll child.0 result) self.new.is_short self.old }
+    {
+        let answer = self.children.next_poll(child);
+        if self.keep(HostEvent::of_poll(child, answer)).is_err() {
+            self.children.faults = self.children.faults.saturating_add(1);
+            return Err(Failed);
+        }
+        answer
+    }
+}
+
 impl Disk for MemHost {
     ghost told = { told_of };
 
@@ -383,6 +469,42 @@ impl Disk for MemHost {
         ensures state { self.new ≡ after_disk_call (Syncs area (fails_next self.old)) (fails_next self.old) self.new.is_short self.old }
     {
         self.settle(area)
+    }
+}
+
+impl Host for MemHost {
+    fn turn(&mut self, number: u64)
+        ensures call { CallsAbove told_of leaves_of (λ h. h.faults) (Some (Turn number)) self.old self.new }
+        ensures above { above_of self.new ≡ above_after (Turn number) (above_of self.old) }
+        ensures disk { self.new.faults ≡ self.old.faults }
+        ensures state { self.new ≡ after_call_above (Some (Turn number)) self.new.is_short self.old }
+    {
+        let _ = self.keep(HostEvent::Turn(number));
+    }
+
+    fn start(&mut self, purpose: Purpose, words: &Words) -> Result<ChildId, StartErr>
+        requires { 0 < length words.now }
+        ensures number { IfOk result (λ child. (above_of self.old).last_child < child.0) }
+        ensures call { CallsAbove told_of leaves_of (λ h. h.faults) (brought_by_start purpose words.now result) self.old self.new }
+        ensures above { above_of self.new ≡ above_by (brought_by_start purpose words.now result) (above_of self.old) }
+        ensures disk { self.new.faults ≡ self.old.faults }
+        // It answers as the script says, and want of memory exactly where the host becomes or is short.
+        ensures answer { result ≡ start_answer self.new.is_short self.old.children }
+        ensures state { self.new ≡ after_call_above (brought_by_start purpose words.now result) self.new.is_short self.old }
+    {
+        self.begin(purpose, words)
+    }
+
+    fn poll(&mut self, child: ChildId) -> Result<Option<bool>, Failed>
+        requires { IsTrue (is_running child.0 (above_of self.old)) }
+        ensures call { CallsAbove told_of leaves_of (λ h. h.faults) (brought_by_poll child.0 result) self.old self.new }
+        ensures above { above_of self.new ≡ above_by (brought_by_poll child.0 result) (above_of self.old) }
+        ensures disk { self.new.faults ≡ self.old.faults }
+        // It fails where it is told to, and where the host becomes or is short; else it answers as the script says.
+        ensures answer { result ≡ poll_answer self.new.is_short child.0 self.old.children }
+        ensures state { self.new ≡ after_call_above (brought_by_poll child.0 result) self.new.is_short self.old }
+    {
+        self.ask(child)
     }
 }
 

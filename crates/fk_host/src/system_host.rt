@@ -1,12 +1,15 @@
-//! The disk of the system: three files of the current folder.
+//! The host of the system: three files of the current folder, and processes.
 ghost use Rattle.std.specs.Prelude.{◌≡◌, ◌+◌, ◌≤◌, ◌^◌, None, [], length, IfOk, OnOk};
 
-use crate::{Area, Disk};
-use fk_base::Failed;
+use crate::system_children::SysChildren;
+use crate::{Area, ChildId, Disk, Host, StartErr};
+use fk_base::{Failed, Purpose, Words};
+use std::alloc::Global;
 use std::fs::File;
 use std::io;
 use std::io::ErrorKind;
 use std::os::unix::fs::FileExt;
+use std::process::Processes;
 use std::rt::Files;
 
 /// A write that ends past this place is a fault.
@@ -15,25 +18,33 @@ const GREATEST_END: u64 = 1 << 40;
 /// The file that is locked.
 const LOCKED: Area = Area::One;
 
-/// A host over the system. Its disk keeps the areas in the files `fwknopd.head`, `fwknopd.one` and `fwknopd.two` of the current
-/// folder, and it tells nothing. A missing file reads as an empty area. The first call that writes or syncs locks the journal's file,
-/// so that a second daemon over the same folder meets a fault, and makes each file that it needs.
+/// A host over the system. It tells nothing but which children run. Its disk keeps the areas in the files `fwknopd.head`,
+/// `fwknopd.one` and `fwknopd.two` of the current folder. A missing file reads as an empty area. The first call that writes or syncs
+/// locks the journal's file, so that a second daemon over the same folder meets a fault, and makes each file that it needs.
+///
+/// A child is a process, started without a shell and looked for by PATH. It has an empty standard input, nowhere for its standard
+/// output, and the daemon's standard error. It ends well where its exit status is 0, and a poll that sees it to end reaps it.
 #[derive(Drop)]
-pub struct SysHost<R: Files<File = File> + Drop> {
+pub struct SysHost<R: Files<File = File> + Processes + Drop> {
     rt: R,
     // the file that is locked, once it is
     lock: Option<File>,
     faults: u64,
+    alloc: Global,
+    children: SysChildren<R::Started>,
 }
 
-impl<R: Files<File = File> + Drop> SysHost<R> {
-    pub fn new(rt: R) -> Self
-        ensures { ⟦<SysHost<R> as Disk>⟧.faults result ≡ 0 }
+impl<R: Files<File = File> + Processes + Drop> SysHost<R> {
+    pub fn new(alloc: Global, rt: R) -> Self
+        ensures faults { ⟦<SysHost<R> as Disk>⟧.faults result ≡ 0 }
+        ensures above { ⟦<SysHost<R> as Disk>⟧.above result ≡ record { running = []; faults = 0; last_child = 0 } }
     {
         SysHost {
             rt,
             lock: None,
             faults: 0,
+            alloc,
+            children: SysChildren::new(alloc),
         }
     }
 
@@ -54,7 +65,7 @@ impl<R: Files<File = File> + Drop> SysHost<R> {
     }
 
     fn take_lock(&mut self) -> io::Result<()>
-        ensures { self.new.faults ≡ self.old.faults }
+        ensures { self.new ≡ record self.old { lock = self.new.lock } }
     {
         if self.lock.is_none() {
             let file = make(&self.rt, LOCKED)?;
@@ -66,7 +77,7 @@ impl<R: Files<File = File> + Drop> SysHost<R> {
 
     fn put(&mut self, area: Area, at: u64, bytes: &[u8]) -> io::Result<()>
         ensures within { OnOk result (at + length bytes.now ≤ 2 ^ 40) }
-        ensures faults { self.new.faults ≡ self.old.faults }
+        ensures rest { self.new ≡ record self.old { lock = self.new.lock } }
     {
         if at.saturating_add(bytes.len() as u64) > GREATEST_END {
             return Err(ErrorKind::FileTooLarge.into());
@@ -76,28 +87,28 @@ impl<R: Files<File = File> + Drop> SysHost<R> {
     }
 
     fn shorten(&mut self, area: Area, len: u64) -> io::Result<()>
-        ensures { self.new.faults ≡ self.old.faults }
+        ensures { self.new ≡ record self.old { lock = self.new.lock } }
     {
         self.take_lock()?;
         make(&self.rt, area)?.set_len(len)
     }
 
     fn settle(&mut self, area: Area) -> io::Result<()>
-        ensures { self.new.faults ≡ self.old.faults }
+        ensures { self.new ≡ record self.old { lock = self.new.lock } }
     {
         self.take_lock()?;
         make(&self.rt, area)?.sync_all()
     }
 }
 
-impl<R: Files<File = File> + Drop> Disk for SysHost<R> {
+impl<R: Files<File = File> + Processes + Drop> Disk for SysHost<R> {
     ghost told = { λ _. None };
 
     ghost may_leave = { λ _ _ _. Unit {0} };
 
     ghost faults = { λ s. s.faults };
 
-    ghost above = { λ _. record { running = []; faults = 0; last_child = 0 } };
+    ghost above = { λ s. s.children };
 
     ghost read_is_an_image = { λ _. tt };
 
@@ -149,6 +160,18 @@ impl<R: Files<File = File> + Drop> Disk for SysHost<R> {
                 Err(Failed)
             }
         }
+    }
+}
+
+impl<R: Files<File = File> + Processes + Drop> Host for SysHost<R> {
+    fn turn(&mut self, _: u64) {}
+
+    fn start(&mut self, purpose: Purpose, words: &Words) -> Result<ChildId, StartErr> {
+        self.children.start(self.alloc, &self.rt, purpose, words)
+    }
+
+    fn poll(&mut self, child: ChildId) -> Result<Option<bool>, Failed> {
+        self.children.poll(child)
     }
 }
 

@@ -1,3 +1,7 @@
+mod feeds;
+mod hosts;
+mod links;
+
 use crate::{
     DirFiles, FileErr, Files, MemFiles, MemSink, MemSource, Sink, Source, StdSink, StdSource,
     write_all,

@@ -4,4 +4,4 @@ mod PutLemmas
 mod Forms
 mod Openings
 mod Contents
-mod Uniqueness
+pub mod Uniqueness

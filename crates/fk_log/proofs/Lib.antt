@@ -1,2 +1,6 @@
-pub mod Pages
-pub mod Words
+pub mod CommandTexts
+pub mod Drafts
+pub mod Lines
+pub mod Logged
+mod LogRows
+pub mod Turns

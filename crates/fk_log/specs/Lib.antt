@@ -1,3 +1,7 @@
-pub mod Counts
+pub mod Line
+pub mod Tally
+pub mod Item
+pub mod Shown
+pub mod Writing
 pub mod Log
-pub mod Page
+pub mod Private

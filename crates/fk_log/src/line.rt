@@ -1,204 +1,254 @@
-ghost use Rattle.std.specs.Prelude.{◌≡◌, ◌++◌, ◌∷◌, [], OnOk, codes};
-ghost use Rattle.fk_log.specs.Log.{number_text, purpose_text, why_text, words_text, line_front, input_line_text};
-ghost use Rattle.fk_log.specs.Log.Line.{ReadyLine, EndedLine, SettledLine, RefusedLine, GrantedLine, OpenedLine, ClosedLine, SummaryLine, BadLineLine, LongInputLine};
+ghost use Rattle.std.specs.Prelude.{◌≡◌, ◌++◌, ◌∷◌, [], OnOk, OnErr};
+ghost use Rattle.fk_host.specs.Count.{HasCause};
+ghost use Rattle.fk_host.specs.Stream.{Gives};
+ghost use Rattle.fk_trace.specs.declared.change.OpenRecord.{OpenRecord};
+ghost use Rattle.fk_log.specs.Item.{line_of};
+ghost use Rattle.fk_log.specs.Line.{close_verb, config_text, good_text, line_front, line_text, listed_text, number_text, open_verb, purpose_text, why_text, words_text};
+ghost use Rattle.fk_log.specs.Line.Line.{ReadyLine, TurnLine, EndedLine, PollFailedLine, SettledLine, RefusedLine, GrantedLine, OpenedLine, ClosedLine, SummaryLine, FileMissingLine, FileFailedLine, DamagedLine};
+ghost use Rattle.fk_log.specs.Private.{Puts, desk, text_of_pieces};
+ghost use Rattle.fk_log.specs.Writing.{GivesPart};
 
-use crate::page::Tally;
-use fk_base::{Bytes, Ip4, Moment, NoMemory, Purpose, Words, put_decimal, put_ip};
-use fk_trace::LogWhy;
+use crate::draft::Draft;
+use crate::piece::Piece::{self, Address, Command, Number, Port, Text};
+use crate::{LogItem, Tally};
+use fk_base::{Failed, Ip4, Moment, Purpose, Words};
+use fk_host::Sink;
+use fk_trace::{LogWhy, OpenRecord};
 
-pub fn append_ready(live: u64, out: &mut Bytes) -> Result<(), NoMemory>
-    ensures { OnOk result (out.new ≡ out.old ++ line_front (ReadyLine live)) }
+/// Writes the line. It takes no memory.
+pub fn render<K: Sink>(item: &LogItem<'_>, out: &mut K) -> Result<(), Failed>
+    ensures given { OnOk result (Gives (line_text (line_of item.now)) (K.written out.old) (K.written out.new)) }
+    ensures part { OnErr result (GivesPart (line_text (line_of item.now)) (K.written out.old) (K.written out.new)) }
+    ensures cause { HasCause (K.faults out.old) (K.faults out.new) result }
 {
-    out.append(b"ready ")?;
-    append_number(live, out)
+    let mut draft = Draft::new();
+    put_line(item, &mut draft, out)?;
+    draft.put_pieces(&[Text(b"\n")], out)?;
+    draft.finish(out)
 }
 
-pub fn append_ended(
-    moment: Moment,
-    purpose: Purpose,
-    good: bool,
-    out: &mut Bytes,
-) -> Result<(), NoMemory>
-    ensures { OnOk result (out.new ≡ out.old ++ line_front (EndedLine moment purpose good)) }
+/// Puts the line without its line feed.
+fn put_line<K: Sink>(item: &LogItem<'_>, draft: &mut Draft, out: &mut K) -> Result<(), Failed>
+    ensures { Puts (line_front (line_of item.now)) result
+        (desk draft.old (K.written out.old) (K.faults out.old)) (desk draft.new (K.written out.new) (K.faults out.new)) }
 {
-    append_number(moment.get(), out)?;
-    out.append(b" ended ")?;
-    append_purpose(purpose, out)?;
-    if good {
-        out.append(b" good")
-    } else {
-        out.append(b" bad")
+    match *item {
+        LogItem::Ready { live } => draft.put_pieces(&[Text(b"ready "), Number(live)], out),
+        LogItem::Turn { moment, number } => draft.put_pieces(&turn(moment, number), out),
+        LogItem::Ended {
+            moment,
+            purpose,
+            good,
+        } => draft.put_pieces(&ended(moment, purpose, good), out),
+        LogItem::PollFailed { moment, purpose } => draft.put_pieces(
+            &poll_failed(moment, purpose),
+            out,
+        ),
+        LogItem::Settled { moment, id } => draft.put_pieces(&settled(moment, id), out),
+        LogItem::Refused {
+            moment,
+            source,
+            why,
+        } => draft.put_pieces(&refused(moment, source, why), out),
+        LogItem::Granted {
+            moment,
+            source,
+            id,
+            stanza,
+            due,
+        } => draft.put_pieces(&granted(moment, source, id, stanza, due), out),
+        LogItem::Opened {
+            moment,
+            id,
+            words,
+            begun,
+        } => draft.put_pieces(&attempted(moment, open_verb(begun), id, words), out),
+        LogItem::Closed {
+            moment,
+            id,
+            words,
+            begun,
+        } => draft.put_pieces(&attempted(moment, close_verb(begun), id, words), out),
+        LogItem::Summary { turns, tally, live } => draft.put_pieces(
+            &summary(turns, tally, live),
+            out,
+        ),
+        LogItem::Listed { item } => draft.put_pieces(&listed(item), out),
+        LogItem::Usage => draft.put_pieces(&[Text(b"usage modes")], out),
+        LogItem::BadFile { name, line, what } => draft.put_pieces(
+            &config(name, u64::from(line), what),
+            out,
+        ),
+        LogItem::BadLine { line } => draft.put_pieces(&config(b"input", line, b"BadLine"), out),
+        LogItem::LongInput { line } => draft.put_pieces(&config(b"input", line, b"TooLong"), out),
+        LogItem::FileMissing { name } => draft.put_pieces(
+            &[Text(b"file "), Text(name), Text(b" missing")],
+            out,
+        ),
+        LogItem::FileFailed { name } => draft.put_pieces(
+            &[Text(b"file "), Text(name), Text(b" failed")],
+            out,
+        ),
+        LogItem::FeedFailed => draft.put_pieces(&[Text(b"feed failed")], out),
+        LogItem::DiskFailed => draft.put_pieces(&[Text(b"disk failed")], out),
+        LogItem::Damaged { place } => draft.put_pieces(&[Text(b"damaged "), Number(place)], out),
+        LogItem::InputFailed => draft.put_pieces(&[Text(b"input failed")], out),
     }
 }
 
-pub fn append_settled(moment: Moment, id: u64, out: &mut Bytes) -> Result<(), NoMemory>
-    ensures { OnOk result (out.new ≡ out.old ++ line_front (SettledLine moment id)) }
+fn turn<'a>(moment: Moment, number: u64) -> [Piece<'a>; 3]
+    ensures { text_of_pieces result ≡ line_front (TurnLine moment number) }
 {
-    append_number(moment.get(), out)?;
-    out.append(b" settled ")?;
-    append_number(id, out)
+    [Number(moment.get()), Text(b" turn "), Number(number)]
 }
 
-pub fn append_refused(
-    moment: Moment,
-    source: Ip4,
-    why: LogWhy,
-    out: &mut Bytes,
-) -> Result<(), NoMemory>
-    ensures { OnOk result (out.new ≡ out.old ++ line_front (RefusedLine moment source why)) }
+fn ended<'a>(moment: Moment, purpose: Purpose, good: bool) -> [Piece<'a>; 5]
+    ensures { text_of_pieces result ≡ line_front (EndedLine moment purpose good) }
 {
-    append_number(moment.get(), out)?;
-    out.append(b" from ")?;
-    put_ip(source, out)?;
-    out.append(b" refused ")?;
-    out.append(why_word(why))
+    let (verb, id) = purpose_parts(purpose);
+    let end: &[u8] = if good { b" good" } else { b" bad" };
+    [
+        Number(moment.get()),
+        Text(b" ended "),
+        Text(verb),
+        Number(id),
+        Text(end),
+    ]
 }
 
-pub fn append_granted(
-    moment: Moment,
-    source: Ip4,
-    id: u64,
-    stanza: u32,
-    until: u64,
-    out: &mut Bytes,
-) -> Result<(), NoMemory>
-    ensures { OnOk result (out.new ≡ out.old ++ line_front (GrantedLine moment source id stanza until)) }
+fn poll_failed<'a>(moment: Moment, purpose: Purpose) -> [Piece<'a>; 5]
+    ensures { text_of_pieces result ≡ line_front (PollFailedLine moment purpose) }
 {
-    append_number(moment.get(), out)?;
-    out.append(b" from ")?;
-    put_ip(source, out)?;
-    out.append(b" granted ")?;
-    append_number(id, out)?;
-    out.append(b" stanza ")?;
-    append_number(u64::from(stanza), out)?;
-    out.append(b" until ")?;
-    append_number(until, out)
+    let (verb, id) = purpose_parts(purpose);
+    [
+        Number(moment.get()),
+        Text(b" poll "),
+        Text(verb),
+        Number(id),
+        Text(b" failed"),
+    ]
 }
 
-pub fn append_opened(
-    moment: Moment,
-    id: u64,
-    words: &Words,
-    begun: bool,
-    out: &mut Bytes,
-) -> Result<(), NoMemory>
-    ensures { OnOk result (out.new ≡ out.old ++ line_front (OpenedLine moment id words.now begun)) }
-{
-    let verb: &[u8] = if begun { b" open " } else { b" open-failed " };
-    append_number(moment.get(), out)?;
-    out.append(verb)?;
-    append_number(id, out)?;
-    out.append(b" ")?;
-    append_words(words, out)
-}
-
-pub fn append_closed(
-    moment: Moment,
-    id: u64,
-    words: &Words,
-    begun: bool,
-    out: &mut Bytes,
-) -> Result<(), NoMemory>
-    ensures { OnOk result (out.new ≡ out.old ++ line_front (ClosedLine moment id words.now begun)) }
-{
-    let verb: &[u8] = if begun { b" close " } else { b" close-failed " };
-    append_number(moment.get(), out)?;
-    out.append(verb)?;
-    append_number(id, out)?;
-    out.append(b" ")?;
-    append_words(words, out)
-}
-
-pub fn append_summary(turns: u64, tally: Tally, live: u64, out: &mut Bytes) -> Result<(), NoMemory>
-    ensures { OnOk result (out.new ≡ out.old
-        ++ line_front (SummaryLine turns tally.opens tally.closes tally.settled tally.refused live)) }
-{
-    append_first_counts(turns, tally, out)?;
-    append_last_counts(tally, live, out)
-}
-
-fn append_first_counts(turns: u64, tally: Tally, out: &mut Bytes) -> Result<(), NoMemory>
-    ensures { OnOk result (out.new ≡ out.old ++ (codes "summary turns " ++ number_text turns ++ codes " opens " ++ number_text tally.opens
-        ++ codes " closes " ++ number_text tally.closes)) }
-{
-    out.append(b"summary turns ")?;
-    append_number(turns, out)?;
-    out.append(b" opens ")?;
-    append_number(tally.opens, out)?;
-    out.append(b" closes ")?;
-    append_number(tally.closes, out)
-}
-
-fn append_last_counts(tally: Tally, live: u64, out: &mut Bytes) -> Result<(), NoMemory>
-    ensures { OnOk result (out.new ≡ out.old ++ (codes " settled " ++ number_text tally.settled ++ codes " refused " ++ number_text tally.refused
-        ++ codes " live " ++ number_text live)) }
-{
-    out.append(b" settled ")?;
-    append_number(tally.settled, out)?;
-    out.append(b" refused ")?;
-    append_number(tally.refused, out)?;
-    out.append(b" live ")?;
-    append_number(live, out)
-}
-
-pub fn append_bad_line(line: u64, out: &mut Bytes) -> Result<(), NoMemory>
-    ensures { OnOk result (out.new ≡ out.old ++ line_front (BadLineLine line)) }
-{
-    append_input_line(line, out)?;
-    out.append(b" BadLine")
-}
-
-pub fn append_long_input(line: u64, out: &mut Bytes) -> Result<(), NoMemory>
-    ensures { OnOk result (out.new ≡ out.old ++ line_front (LongInputLine line)) }
-{
-    append_input_line(line, out)?;
-    out.append(b" TooLong")
-}
-
-fn append_input_line(line: u64, out: &mut Bytes) -> Result<(), NoMemory>
-    ensures { OnOk result (out.new ≡ out.old ++ input_line_text line) }
-{
-    out.append(b"config input ")?;
-    append_number(line, out)
-}
-
-fn append_purpose(purpose: Purpose, out: &mut Bytes) -> Result<(), NoMemory>
-    ensures { OnOk result (out.new ≡ out.old ++ purpose_text purpose) }
+/// The purpose's word with a space behind it, and the number of its record.
+fn purpose_parts(purpose: Purpose) -> (&'static [u8], u64)
+    ensures { purpose_text purpose ≡ result.0.now ++ number_text result.1 }
 {
     match purpose {
-        Purpose::Open(id) => {
-            out.append(b"open ")?;
-            append_number(id, out)
-        }
-        Purpose::Close(id) => {
-            out.append(b"close ")?;
-            append_number(id, out)
-        }
+        Purpose::Open(id) => (b"open ", id),
+        Purpose::Close(id) => (b"close ", id),
     }
 }
 
-fn append_number(value: u64, out: &mut Bytes) -> Result<(), NoMemory>
-    ensures { OnOk result (out.new ≡ out.old ++ number_text value) }
+fn settled<'a>(moment: Moment, id: u64) -> [Piece<'a>; 3]
+    ensures { text_of_pieces result ≡ line_front (SettledLine moment id) }
 {
-    put_decimal(value, out)
+    [Number(moment.get()), Text(b" settled "), Number(id)]
 }
 
-/// The words joined by one space.
-fn append_words(words: &Words, out: &mut Bytes) -> Result<(), NoMemory>
-    ensures { OnOk result (out.new ≡ out.old ++ words_text words.now) }
+fn refused<'a>(moment: Moment, source: Ip4, why: LogWhy) -> [Piece<'a>; 5]
+    ensures { text_of_pieces result ≡ line_front (RefusedLine moment source why) }
 {
-    if words.count() == 0 {
-        return Ok(());
-    }
-    out.append(words.get(0))?;
-    for at in 1..words.count() {
-        out.append(b" ")?;
-        out.append(words.get(at))?;
-    }
-    Ok(())
+    [
+        Number(moment.get()),
+        Text(b" from "),
+        Address(source),
+        Text(b" refused "),
+        Text(why_text(why)),
+    ]
 }
 
-fn why_word(why: LogWhy) -> &'static [u8]
+fn granted<'a>(moment: Moment, source: Ip4, id: u64, stanza: u32, due: u64) -> [Piece<'a>; 9]
+    ensures { text_of_pieces result ≡ line_front (GrantedLine moment source id stanza due) }
+{
+    [
+        Number(moment.get()),
+        Text(b" from "),
+        Address(source),
+        Text(b" granted "),
+        Number(id),
+        Text(b" stanza "),
+        Number(u64::from(stanza)),
+        Text(b" until "),
+        Number(due),
+    ]
+}
+
+/// An attempt's line; the verb has a space at both ends.
+fn attempted<'a>(moment: Moment, verb: &'a [u8], id: u64, words: &'a Words) -> [Piece<'a>; 5]
+    ensures { text_of_pieces result ≡ number_text moment ++ verb.now ++ number_text id ++ 32 ∷ words_text words.now }
+{
+    [
+        Number(moment.get()),
+        Text(verb),
+        Number(id),
+        Text(b" "),
+        Command(words),
+    ]
+}
+
+fn open_verb(begun: bool) -> &'static [u8]
+    ensures { result.now ≡ open_verb begun }
+{
+    if begun { b" open " } else { b" open-failed " }
+}
+
+fn close_verb(begun: bool) -> &'static [u8]
+    ensures { result.now ≡ close_verb begun }
+{
+    if begun { b" close " } else { b" close-failed " }
+}
+
+fn summary<'a>(turns: u64, tally: Tally, live: u64) -> [Piece<'a>; 12]
+    ensures { text_of_pieces result ≡ line_front (SummaryLine turns tally live) }
+{
+    [
+        Text(b"summary turns "),
+        Number(turns),
+        Text(b" opens "),
+        Number(tally.opens),
+        Text(b" closes "),
+        Number(tally.closes),
+        Text(b" settled "),
+        Number(tally.settled),
+        Text(b" refused "),
+        Number(tally.refused),
+        Text(b" live "),
+        Number(live),
+    ]
+}
+
+fn listed(item: &OpenRecord) -> [Piece<'_>; 11]
+    ensures { text_of_pieces result ≡ listed_text item.now }
+{
+    [
+        Number(item.id),
+        Text(b" "),
+        Number(item.moment.get()),
+        Text(b" "),
+        Number(item.due),
+        Text(b" "),
+        Address(item.ip),
+        Text(b" "),
+        Port(item.pair),
+        Text(b" "),
+        Command(&item.close),
+    ]
+}
+
+fn config<'a>(name: &'a [u8], line: u64, what: &'a [u8]) -> [Piece<'a>; 6]
+    ensures { text_of_pieces result ≡ config_text name.now line what.now }
+{
+    [
+        Text(b"config "),
+        Text(name),
+        Text(b" "),
+        Number(line),
+        Text(b" "),
+        Text(what),
+    ]
+}
+
+fn why_text(why: LogWhy) -> &'static [u8]
     ensures { result.now ≡ why_text why }
 {
     match why {

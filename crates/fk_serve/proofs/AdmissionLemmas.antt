@@ -7,9 +7,9 @@ use Rattle.fk_trace.specs.declared.refusal.LogWhy.{LogWhy}
 use Rattle.fk_trace.specs.declared.refusal.LogWhy.TheVariants.{Age, Port}
 use Rattle.fk_trace.specs.Decision.{Verdict}
 use Rattle.fk_trace.specs.Decision.Verdict.{Granted, Refused}
-use Rattle.fk_codec.specs.declared.plaintext.Plaintext.{Plaintext}
-use Rattle.fk_codec.specs.Fields.{Fields}
-use Rattle.fk_codec.specs.Summary.{summary_of}
+use Rattle.fk_plaintext.specs.declared.plaintext.Plaintext.{Plaintext}
+use Rattle.fk_plaintext.specs.Fields.{Fields}
+use Rattle.fk_plaintext.specs.Summary.{summary_of}
 use Rattle.fk_serve.specs.declared.command.Command.{Command}
 use Rattle.fk_serve.specs.Rules.{age_limit, is_same_pair, permit_for, admit_fields, refusal_by, Grants}
 

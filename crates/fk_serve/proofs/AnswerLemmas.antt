@@ -20,10 +20,10 @@ use Rattle.fk_trace.specs.Decision.Verdict.{Granted, Refused}
 use Rattle.fk_trace.specs.Decision.Answer.{Refuses, Opens}
 use Rattle.fk_trace.specs.Planned.{recorded_by}
 use Rattle.fk_trace.proofs.Lists.{list_any-map}
-use Rattle.fk_log.specs.declared.page.Page.{Page}
-use Rattle.fk_log.specs.Log.{input_lines, attempt_lines}
-use Rattle.fk_log.specs.Log.Line.{RefusedLine, GrantedLine, OpenedLine}
-use Rattle.fk_log.specs.Page.{AddsLines}
+use Rattle.fk_page.specs.declared.page.Page.{Page}
+use Rattle.fk_page.specs.Log.{input_lines, attempt_lines}
+use Rattle.fk_page.specs.Log.Line.{RefusedLine, GrantedLine, OpenedLine}
+use Rattle.fk_page.specs.Page.{AddsLines}
 use Rattle.fk_mac.specs.Hmac.{packet_digest}
 use Rattle.fk_cycle.specs.Kept.{Kept}
 use Rattle.fk_serve.specs.declared.command.Command.{Command}

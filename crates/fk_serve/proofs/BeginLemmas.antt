@@ -17,11 +17,11 @@ use Rattle.fk_trace.specs.Legal.{ends_after}
 use Rattle.fk_trace.proofs.Lists.{Contains-head, Contains-tail}
 use Rattle.fk_trace.proofs.Ledgers.{opens-push_done, dones-push_done}
 use Rattle.fk_trace.proofs.Running.{child_numbered-running}
-use Rattle.fk_log.specs.declared.page.Page.{Page}
-use Rattle.fk_log.specs.Log.{Line, child_line, poll_lines}
-use Rattle.fk_log.specs.Log.Line.{EndedLine, SettledLine}
-use Rattle.fk_log.specs.Page.{AddsLines}
-use Rattle.fk_log.proofs.Pages.{AddsLines-append}
+use Rattle.fk_page.specs.declared.page.Page.{Page}
+use Rattle.fk_page.specs.Log.{Line, child_line, poll_lines}
+use Rattle.fk_page.specs.Log.Line.{EndedLine, SettledLine}
+use Rattle.fk_page.specs.Page.{AddsLines}
+use Rattle.fk_page.proofs.Pages.{AddsLines-append}
 use Rattle.fk_cycle.specs.Kept.{Kept}
 use Rattle.fk_cycle.specs.Stands.{Stands}
 use Rattle.fk_serve.specs.Trial.{obligations, trial_item, ended_items, end_lines, Keeps, PartlyPolled, BeginsTurn}

@@ -19,11 +19,11 @@ use Rattle.fk_trace.specs.Idle.{is_idle, last_close, ended_well, rests}
 use Rattle.fk_trace.specs.Ledger.{opens, live, next_id}
 use Rattle.fk_trace.specs.Legal.{IsAttempt, Precedes, IsDueIdle}
 use Rattle.fk_trace.proofs.Lists.{Contains-cases, Contains-filter, Contains-map, Contains-unmap, list_any-at, list_any-from, same_by_key}
-use Rattle.fk_log.specs.declared.page.Page.{Page}
-use Rattle.fk_log.specs.Log.{attempt_line, attempt_lines}
-use Rattle.fk_log.specs.Log.Line.{ClosedLine}
-use Rattle.fk_log.specs.Page.{AddsLines}
-use Rattle.fk_log.proofs.Pages.{AddsLines-nil, AddsLines-append}
+use Rattle.fk_page.specs.declared.page.Page.{Page}
+use Rattle.fk_page.specs.Log.{attempt_line, attempt_lines}
+use Rattle.fk_page.specs.Log.Line.{ClosedLine}
+use Rattle.fk_page.specs.Page.{AddsLines}
+use Rattle.fk_page.proofs.Pages.{AddsLines-nil, AddsLines-append}
 use Rattle.fk_cycle.specs.Kept.{Kept, may_begin, noted_begun}
 use Rattle.fk_cycle.specs.Stands.{Obligation, Stands, kept_of, is_owed, is_due, precedes, IsNextDue}
 use Rattle.fk_cycle.proofs.StandsLemmas.{close-begins}

@@ -8,9 +8,9 @@ use Rattle.fk_trace.specs.declared.change.Change.{Change}
 use Rattle.fk_trace.specs.Trace.{Item, past_after}
 use Rattle.fk_trace.specs.Ledger.{live}
 use Rattle.fk_trace.specs.Legal.{Precedes, IsDueIdle}
-use Rattle.fk_log.specs.declared.page.Page.{Page}
-use Rattle.fk_log.specs.Log.{attempt_lines}
-use Rattle.fk_log.specs.Page.{AddsLines}
+use Rattle.fk_page.specs.declared.page.Page.{Page}
+use Rattle.fk_page.specs.Log.{attempt_lines}
+use Rattle.fk_page.specs.Page.{AddsLines}
 use Rattle.fk_cycle.specs.Kept.{Kept}
 use Rattle.fk_cycle.specs.Stands.{Obligation, is_due}
 use Rattle.fk_serve.specs.Trial.{Keeps, NoneTried, closed_items, next_child, obligation_of}

@@ -17,11 +17,11 @@ use Rattle.fk_trace.specs.Legal.{ends_after}
 use Rattle.fk_trace.specs.Ledger.{live}
 use Rattle.fk_trace.proofs.Lists.{Contains-head, list_any-at, list_any-map}
 use Rattle.fk_trace.proofs.Running.{child_numbered-running}
-use Rattle.fk_log.specs.declared.page.Page.{Page}
-use Rattle.fk_log.specs.Log.{Line}
-use Rattle.fk_log.specs.Log.Line.{SettledLine}
-use Rattle.fk_log.specs.Page.{AddsLines}
-use Rattle.fk_log.proofs.Pages.{AddsLines-append}
+use Rattle.fk_page.specs.declared.page.Page.{Page}
+use Rattle.fk_page.specs.Log.{Line}
+use Rattle.fk_page.specs.Log.Line.{SettledLine}
+use Rattle.fk_page.specs.Page.{AddsLines}
+use Rattle.fk_page.proofs.Pages.{AddsLines-append}
 use Rattle.fk_cycle.specs.declared.act.Act.{Act}
 use Rattle.fk_cycle.specs.declared.act.Act.TheVariants as act
 use Rattle.fk_cycle.specs.Acts.{act_at, owed_after}

@@ -13,8 +13,8 @@ use Rattle.fk_input.specs.Lines.{pieces}
 use Rattle.fk_input.proofs.Readings.{Reads-one}
 use Rattle.fk_trace.specs.Decision.{Input, FeedTurn}
 use Rattle.fk_trace.specs.Decision.Input.{Quiet, Datagram}
-use Rattle.fk_log.specs.Log.{Ending}
-use Rattle.fk_log.specs.Log.Ending.{AtEnd, AtBadLine, AtLongInput, AtReadFault, Silent}
+use Rattle.fk_page.specs.Log.{Ending}
+use Rattle.fk_page.specs.Log.Ending.{AtEnd, AtBadLine, AtLongInput, AtReadFault, Silent}
 use Rattle.fk_serve.specs.declared.command.Command.{Command}
 use Rattle.fk_serve.specs.Command.{IsTrialCommand}
 use Rattle.fk_serve.specs.Turns.{IsLineAt, IsTurnLine}

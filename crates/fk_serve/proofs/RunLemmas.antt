@@ -17,9 +17,9 @@ use Rattle.fk_trace.specs.Decision.{FeedTurn}
 use Rattle.fk_trace.specs.Ledger.{live}
 use Rattle.fk_trace.specs.Planned.{up_to_turn, from_turn, first_turn, later_turns, planned, planned_turn}
 use Rattle.fk_trace.specs.Legal.{ends_after, LegalFrom}
-use Rattle.fk_log.specs.declared.page.Page.{Page}
-use Rattle.fk_log.specs.Log.{Line, turn_lines, lines_of_turns}
-use Rattle.fk_log.specs.Page.{AddsLines}
+use Rattle.fk_page.specs.declared.page.Page.{Page}
+use Rattle.fk_page.specs.Log.{Line, turn_lines, lines_of_turns}
+use Rattle.fk_page.specs.Page.{AddsLines}
 use Rattle.fk_cycle.specs.Kept.{Kept}
 use Rattle.fk_serve.specs.declared.command.Command.{Command}
 use Rattle.fk_serve.specs.Rules.{rules_of}

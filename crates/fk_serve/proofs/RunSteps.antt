@@ -20,13 +20,13 @@ use Rattle.fk_trace.specs.declared.change.Change.{Change}
 use Rattle.fk_trace.specs.Trace.{Item, past_after}
 use Rattle.fk_trace.specs.Decision.{FeedTurn}
 use Rattle.fk_trace.specs.Ledger.{live}
-use Rattle.fk_log.specs.declared.page.Page.{Page}
-use Rattle.fk_log.specs.declared.page.Tally.{Tally}
-use Rattle.fk_log.specs.Counts.{capped}
-use Rattle.fk_log.specs.Log.{Line, Ending, line_text, text_of_lines, summary_of, ending_lines, log_text}
-use Rattle.fk_log.specs.Log.Line.{ReadyLine, SummaryLine, BadLineLine, LongInputLine, InputFailedLine, UsageLine}
-use Rattle.fk_log.specs.Log.Ending.{AtEnd, AtBadLine, AtLongInput, AtReadFault, Silent}
-use Rattle.fk_log.specs.Page.{tally_of, AddsLines}
+use Rattle.fk_page.specs.declared.page.Page.{Page}
+use Rattle.fk_page.specs.declared.page.Tally.{Tally}
+use Rattle.fk_page.specs.Counts.{capped}
+use Rattle.fk_page.specs.Log.{Line, Ending, line_text, text_of_lines, summary_of, ending_lines, log_text}
+use Rattle.fk_page.specs.Log.Line.{ReadyLine, SummaryLine, BadLineLine, LongInputLine, InputFailedLine, UsageLine}
+use Rattle.fk_page.specs.Log.Ending.{AtEnd, AtBadLine, AtLongInput, AtReadFault, Silent}
+use Rattle.fk_page.specs.Page.{tally_of, AddsLines}
 use Rattle.fk_serve.specs.declared.command.Command.{Command}
 use Rattle.fk_serve.specs.declared.trial.Trial.{Trial}
 use Rattle.fk_serve.specs.declared.run.Session.{Session}

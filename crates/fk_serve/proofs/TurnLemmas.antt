@@ -18,11 +18,11 @@ use Rattle.fk_trace.specs.Decision.Answer.{Nothing, Refuses, Opens}
 use Rattle.fk_trace.specs.Planned.{settled_in, settlements, recorded_by}
 use Rattle.fk_trace.specs.Legal.{IsPollOf, PollsEachOnce, AttemptsThatOpen, AttemptsEachDue, WholeTurn, ends_after}
 use Rattle.fk_trace.proofs.Running.{running-children}
-use Rattle.fk_log.specs.declared.page.Page.{Page}
-use Rattle.fk_log.specs.Log.{Line, poll_line, poll_lines, attempt_line, attempt_lines, input_lines, turn_lines}
-use Rattle.fk_log.specs.Log.Line.{SettledLine}
-use Rattle.fk_log.specs.Page.{AddsLines}
-use Rattle.fk_log.proofs.Pages.{AddsLines-append}
+use Rattle.fk_page.specs.declared.page.Page.{Page}
+use Rattle.fk_page.specs.Log.{Line, poll_line, poll_lines, attempt_line, attempt_lines, input_lines, turn_lines}
+use Rattle.fk_page.specs.Log.Line.{SettledLine}
+use Rattle.fk_page.specs.Page.{AddsLines}
+use Rattle.fk_page.proofs.Pages.{AddsLines-append}
 use Rattle.fk_cycle.specs.Kept.{Kept}
 use Rattle.fk_serve.specs.Trial.{trial_item, next_child, ended_items, opened_items, closed_items, IsTrialEvent, IsTrialTurn, NoneTried, Keeps, BeginsTurn, Answers, StartsCloses, ServesTurn}
 use Rattle.fk_serve.proofs.Places.{past_after-append, ends_after-append, settled_in-append}

@@ -11,7 +11,7 @@ use Rattle.fk_base.proofs.PairTexts.{Pair-same}
 use Rattle.fk_trace.specs.declared.refusal.LogWhy.TheVariants.{Plain, Age, Port}
 use Rattle.fk_trace.specs.Decision.{Permit, Verdict}
 use Rattle.fk_trace.specs.Decision.Verdict.{Granted, Refused}
-use Rattle.fk_codec.specs.Fields.{Fields, Spells}
+use Rattle.fk_plaintext.specs.Fields.{Fields, Spells}
 use Rattle.fk_serve.specs.declared.command.Command.{Command}
 use Rattle.fk_serve.specs.Rules.{age_limit, is_same_proto, is_same_pair, permit_for, admit_fields}
 use Rattle.fk_serve.specs.Grants.{IsGrantedText, IsTooOld, AsksElsewhere}

@@ -15,8 +15,8 @@ use Rattle.fk_trace.specs.Decision.{FeedTurn, Permit, Rules}
 use Rattle.fk_trace.specs.Decision.Input.{Quiet, Datagram}
 use Rattle.fk_trace.specs.Decision.Verdict.{Granted}
 use Rattle.fk_trace.specs.Planned.{planned}
-use Rattle.fk_log.specs.Log.{log_text}
-use Rattle.fk_log.specs.Log.Ending.{AtEnd}
+use Rattle.fk_page.specs.Log.{log_text}
+use Rattle.fk_page.specs.Log.Ending.{AtEnd}
 use Rattle.fk_serve.specs.Trial.{trial_item}
 
 abbrev source : Ip4

@@ -3,7 +3,7 @@ use Rattle.std.specs.Prelude.{◌≡◌, ◌≢◌, ℕ, ◌<◌, ◌≤◌, Lis
 use Rattle.std.specs.Int.{abs_diff}
 use Rattle.fk_base.specs.declared.address.Ip4.{Ip4}
 use Rattle.fk_trace.specs.Decision.{Permit}
-use Rattle.fk_codec.specs.Fields.{Fields, Spells}
+use Rattle.fk_plaintext.specs.Fields.{Fields, Spells}
 use Rattle.fk_serve.specs.declared.command.Command.{Command}
 use Rattle.fk_serve.specs.Rules.{age_limit, permit_for}
 

@@ -10,9 +10,9 @@ use Rattle.fk_trace.specs.declared.refusal.LogWhy.TheVariants.{Plain, Age, Port}
 use Rattle.fk_trace.specs.Decision.{Permit, Rules, Verdict}
 use Rattle.fk_trace.specs.Decision.Verdict.{Granted, Refused}
 use Rattle.fk_mac.specs.Hmac.{packet_digest}
-use Rattle.fk_codec.specs.declared.plaintext.Plaintext.{Plaintext}
-use Rattle.fk_codec.specs.Fields.{Fields}
-use Rattle.fk_codec.specs.Cutting.{fields_in}
+use Rattle.fk_plaintext.specs.declared.plaintext.Plaintext.{Plaintext}
+use Rattle.fk_plaintext.specs.Fields.{Fields}
+use Rattle.fk_plaintext.specs.Cutting.{fields_in}
 use Rattle.fk_serve.specs.declared.command.Command.{Command}
 
 -- the most seconds between the moment and the stamp

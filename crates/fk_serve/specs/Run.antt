@@ -13,9 +13,9 @@ use Rattle.fk_trace.specs.Trace.{Item, children, past_after}
 use Rattle.fk_trace.specs.Decision.{FeedTurn}
 use Rattle.fk_trace.specs.Planned.{planned}
 use Rattle.fk_trace.specs.Legal.{Legal}
-use Rattle.fk_log.specs.Log.{Ending, log_text, line_text}
-use Rattle.fk_log.specs.Log.Line.{UsageLine}
-use Rattle.fk_log.specs.Log.Ending.{AtEnd, AtBadLine, AtLongInput, AtReadFault, Silent}
+use Rattle.fk_page.specs.Log.{Ending, log_text, line_text}
+use Rattle.fk_page.specs.Log.Line.{UsageLine}
+use Rattle.fk_page.specs.Log.Ending.{AtEnd, AtBadLine, AtLongInput, AtReadFault, Silent}
 use Rattle.fk_serve.specs.declared.command.Command.{Command}
 use Rattle.fk_serve.specs.Command.{IsTrialCommand}
 use Rattle.fk_serve.specs.Turns.{IsTurnLine}

@@ -16,11 +16,11 @@ use Rattle.fk_trace.specs.Decision.{FeedTurn}
 use Rattle.fk_trace.specs.Ledger.{live}
 use Rattle.fk_trace.specs.Planned.{up_to_turn, from_turn, planned}
 use Rattle.fk_trace.specs.Legal.{LegalFrom, Legal}
-use Rattle.fk_log.specs.declared.page.Page.{Page}
-use Rattle.fk_log.specs.Log.{Line, Ending, text_of_lines, lines_of_turns}
-use Rattle.fk_log.specs.Log.Line.{ReadyLine, SummaryLine, BadLineLine, LongInputLine, InputFailedLine}
-use Rattle.fk_log.specs.Log.Ending.{AtEnd, AtBadLine, AtLongInput, AtReadFault, Silent}
-use Rattle.fk_log.specs.Page.{tally_of, AddsLines}
+use Rattle.fk_page.specs.declared.page.Page.{Page}
+use Rattle.fk_page.specs.Log.{Line, Ending, text_of_lines, lines_of_turns}
+use Rattle.fk_page.specs.Log.Line.{ReadyLine, SummaryLine, BadLineLine, LongInputLine, InputFailedLine}
+use Rattle.fk_page.specs.Log.Ending.{AtEnd, AtBadLine, AtLongInput, AtReadFault, Silent}
+use Rattle.fk_page.specs.Page.{tally_of, AddsLines}
 use Rattle.fk_cycle.specs.Kept.{Kept}
 use Rattle.fk_serve.specs.declared.command.Command.{Command}
 use Rattle.fk_serve.specs.declared.trial.Trial.{Trial}

@@ -16,10 +16,10 @@ use Rattle.fk_trace.specs.Decision.{FeedTurn, Rules, Answer, answer}
 use Rattle.fk_trace.specs.Decision.Answer.{Nothing, Refuses, Opens}
 use Rattle.fk_trace.specs.Planned.{settled_in, settlements, recorded_by, planned_turn}
 use Rattle.fk_trace.specs.Legal.{ends_after, AttemptsEachDue, WholeTurn}
-use Rattle.fk_log.specs.declared.page.Page.{Page}
-use Rattle.fk_log.specs.Log.{Line, attempt_lines, input_lines, poll_lines, turn_lines}
-use Rattle.fk_log.specs.Log.Line.{EndedLine, SettledLine, GrantedLine, OpenedLine}
-use Rattle.fk_log.specs.Page.{AddsLines}
+use Rattle.fk_page.specs.declared.page.Page.{Page}
+use Rattle.fk_page.specs.Log.{Line, attempt_lines, input_lines, poll_lines, turn_lines}
+use Rattle.fk_page.specs.Log.Line.{EndedLine, SettledLine, GrantedLine, OpenedLine}
+use Rattle.fk_page.specs.Page.{AddsLines}
 use Rattle.fk_cycle.specs.declared.act.Act.{Act}
 use Rattle.fk_cycle.specs.declared.act.Act.TheVariants as act
 use Rattle.fk_cycle.specs.Kept.{Kept}

@@ -5,7 +5,7 @@ ghost use Rattle.fk_serve.specs.Rules.{admit, refusal_by, Grants};
 
 use crate::Command;
 use fk_base::{Moment, NoMemory};
-use fk_codec::{Plaintext, read_plaintext};
+use fk_plaintext::{Plaintext, read_plaintext};
 use fk_trace::LogWhy;
 use std::alloc::Global;
 

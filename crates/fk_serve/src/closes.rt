@@ -7,7 +7,7 @@ ghost use Rattle.fk_serve.specs.Trial.{Keeps, NoneTried, MayClose, StartsCloses}
 
 use fk_base::{Moment, NoMemory, Purpose, Words};
 use fk_cycle::Machine;
-use fk_log::Page;
+use fk_page::Page;
 
 /// Starts the close of each record that is idle and due, by rising due and then number, and adds their lines.
 pub fn start_closes(

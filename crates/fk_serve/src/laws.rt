@@ -4,12 +4,12 @@ ghost use Rattle.fk_base.specs.Bytes.{IsBytes};
 ghost use Rattle.fk_trace.specs.declared.refusal.LogWhy.TheVariants.{Plain, Age, Port};
 ghost use Rattle.fk_trace.specs.Decision.{Permit};
 ghost use Rattle.fk_trace.specs.Decision.Verdict.{Granted, Refused};
-ghost use Rattle.fk_codec.specs.Fields.{Fields, Spells};
+ghost use Rattle.fk_plaintext.specs.Fields.{Fields, Spells};
 ghost use Rattle.fk_serve.specs.declared.command.Command.{Command};
 ghost use Rattle.fk_serve.specs.Rules.{admit};
 ghost use Rattle.fk_serve.specs.Grants.{IsGrantedText, IsTooOld, AsksElsewhere};
 
-use fk_codec::plaintext_law;
+use fk_plaintext::plaintext_law;
 
 /// A trial grants a text exactly where it is the plaintext of fields that are young enough and ask for the permitted pair, and
 /// each refusal has exactly its cause.

@@ -2,14 +2,14 @@
 ghost use Rattle.std.specs.Prelude.{◌≡◌, ℕ, List, [], ◌++◌, map, OnOk};
 ghost use Rattle.fk_trace.specs.Trace.{Item, running};
 ghost use Rattle.fk_trace.specs.declared.change.Change.{Change};
-ghost use Rattle.fk_log.specs.Log.Line.{SettledLine};
-ghost use Rattle.fk_log.specs.Page.{AddsLines};
+ghost use Rattle.fk_page.specs.Log.Line.{SettledLine};
+ghost use Rattle.fk_page.specs.Page.{AddsLines};
 ghost use Rattle.fk_cycle.specs.Stands.{Stands};
 ghost use Rattle.fk_serve.specs.Trial.{end_lines, settled_of, obligations, HasPlace, PartlyPolled};
 
 use fk_base::{Moment, NoMemory, Purpose};
 use fk_cycle::{Act, Machine};
-use fk_log::Page;
+use fk_page::Page;
 
 /// Adds the lines of the ends of children for these purposes.
 pub fn tell_ends(ended: &[Purpose], moment: Moment, page: &mut Page) -> Result<(), NoMemory>

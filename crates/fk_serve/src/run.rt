@@ -13,7 +13,7 @@ use crate::turn::read_turn;
 use fk_base::{NoMemory, Status, Words};
 use fk_host::{Sink, Source, write_all};
 use fk_input::{LineReader, NextLine};
-use fk_log::Page;
+use fk_page::Page;
 use std::alloc::Global;
 
 /// Runs `fwknopd` on the words of its command line, without the program's name.

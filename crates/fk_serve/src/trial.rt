@@ -14,8 +14,8 @@ use crate::polls::{settle, tell_ends};
 use crate::turn::{Turn, TurnInput};
 use fk_base::{Digest, Ip4, Moment, NoMemory, Purpose};
 use fk_cycle::Machine;
-use fk_log::Page;
 use fk_mac::packet_digest;
+use fk_page::Page;
 use fk_trace::LogWhy;
 use std::alloc::Global;
 

@@ -21,7 +21,7 @@ pub use fault::CommandFault;
 pub use filling::fill;
 pub use laws::values_are_plain_bytes;
 pub use piece::Piece;
-pub use template::{Template, split};
+pub use template::{Template, is_template, split};
 pub use variable::Var;
 
 #[cfg(test)]

@@ -42,6 +42,16 @@ impl Template {
     }
 }
 
+/// Whether a text has a template. It takes no memory.
+pub fn is_template(text: &[u8]) -> bool
+    ensures { result ≡ is_template text.now }
+{
+    match first_command_fault(text) {
+        Some(_) => false,
+        None => true,
+    }
+}
+
 /// The template of a text. All faults are tested before memory is asked for.
 pub fn split(alloc: Global, text: &[u8]) -> Result<Template, CommandFault>
     requires { IsTrue (list_all is_line_byte text.now) }

@@ -1,4 +1,4 @@
-ghost use Rattle.std.specs.Prelude.{◌≡◌, ◌≤◌, length, MatchOption, None, Some};
+ghost use Rattle.std.specs.Prelude.{◌≡◌, ◌+◌, ◌*◌, ◌/◌, ◌≤◌, length, take, MatchOption, None, Some};
 ghost use Rattle.fk_text.specs.Found.{bytes_in};
 ghost use Rattle.fk_base.specs.Bytes.{IsBytes};
 
@@ -36,10 +36,20 @@ pub fn take_short(text: &[u8]) -> Option<ShortBytes>
     ensures { MatchOption result (bytes_in text.now ≡ None) (λ bytes. bytes_in text.now ≡ Some bytes) }
 {
     let mut bytes = [0; 192];
-    match STANDARD_NO_PAD.decode_slice_unchecked(text, &mut bytes) {
+    let len = take_into(text, &mut bytes)?;
+    Some(ShortBytes { bytes, len })
+}
+
+/// Leaves the bytes whose text is `text` at the front of `room`, and answers how many they are, or `None` where it is no text.
+/// It takes no memory.
+pub fn take_into(text: &[u8], room: &mut [u8]) -> Option<usize>
+    requires { (length text.now + 3) / 4 * 3 ≤ length room.old }
+    ensures { MatchOption result (bytes_in text.now ≡ None) (λ len. (len ≤ length room.new) × (bytes_in text.now ≡ Some (take len room.new))) }
+{
+    match STANDARD_NO_PAD.decode_slice_unchecked(text, room) {
         Ok(len) => {
-            are_bytes(&bytes[..len]);
-            Some(ShortBytes { bytes, len })
+            are_bytes(&room[..len]);
+            Some(len)
         }
         Err(_) => None,
     }

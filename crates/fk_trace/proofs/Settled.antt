@@ -96,7 +96,7 @@ settled-child : (past : List Item) (number : ℕ) (found : Option Child) (id : �
 settled-child past number None id e = absurd cc
 settled-child past number (Some child) id e = let both = settled-purpose past number child.purpose id e in (child, refl, both.0, both.1)
 
-settled-event : (past : List Item) (event : Event) (id : ℕ) → settled_at past event ≡ Some id
+pub settled-event : (past : List Item) (event : Event) (id : ℕ) → settled_at past event ≡ Some id
     → (number : ℕ) × (event ≡ Ended number true) × (child_numbered number past ≡ Some (record { number = number; purpose = Close id })) × IsTrue (is_clean past number id)
 settled-event past (Turn number) id e = absurd cc
 settled-event past (Began number purpose words) id e = absurd cc

@@ -222,7 +222,7 @@ module _ {rules : Rules} {past : List Item} {ends : List ℕ} {ledger : List Cha
   pub settled-opens : opens whole.settled ≡ []
   settled-opens = ap opens whole.settles_clean_good_ends ∙ opens-dones (settled_in (whole.start ∷ past) whole.polled)
 
-  changes-opens : opens changes ≡ opens whole.recorded
+  pub changes-opens : opens changes ≡ opens whole.recorded
   changes-opens = ap opens whole.nothing_else.2 ∙ opens-append whole.settled whole.recorded ∙ ap (λ xs. xs ++ opens whole.recorded) settled-opens
 
   -- an open is attempted for the record that is made of what was granted
@@ -273,7 +273,7 @@ module _ {rules : Rules} {past : List Item} {ends : List ℕ} {ledger : List Cha
       ∙ ap (λ xs. dones whole.settled ++ xs) (ap dones whole.records_what_is_granted ∙ dones-recorded (answer rules (ledger ++ whole.settled) turn))
       ∙ append-nil (dones whole.settled)
 
-  changes-dones : dones changes ≡ settled_in (whole.start ∷ past) whole.polled
+  pub changes-dones : dones changes ≡ settled_in (whole.start ∷ past) whole.polled
   changes-dones = settled-dones ∙ ap dones whole.settles_clean_good_ends ∙ dones-dones (settled_in (whole.start ∷ past) whole.polled)
 
   -- a record is settled by a clean close that ended well

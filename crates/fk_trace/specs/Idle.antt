@@ -58,13 +58,17 @@ abbrev pub ended_well : Option End → Bool
 ended_well None = false
 ended_well (Some end) = end.good
 
--- the last close failed less than ten seconds ago; where the clock stands before that end, it doesn't count
+-- for how many seconds a record rests after a close of it that ended badly
+abbrev pub rest : ℕ
+rest = 10
+
+-- the last close failed less than that ago; where the clock stands before that end, it doesn't count
 abbrev pub rests : Option End → ℕ → Bool
 rests None moment = false
-rests (Some end) moment = not end.good && nat_le end.moment moment && nat_lt moment (end.moment + 10)
+rests (Some end) moment = not end.good && nat_le end.moment moment && nat_lt moment (end.moment + rest)
 
 -- a record is idle at a place with this moment where no close of it runs, none that ended well waits for its open's end,
--- and none failed in the last ten seconds
+-- and none failed while the record rests
 abbrev pub is_idle : List Item → List ℕ → ℕ → ℕ → Bool
 is_idle past ends moment id =
     not (close_runs past id) && not (open_runs past id && ended_well (last_close past ends id)) && not (rests (last_close past ends id) moment)

@@ -1,10 +1,9 @@
 -- A text of more letters than any key has is that of no key.
-use Rattle.std.proofs.Common.{◌≡◌, ◌+◌, ◌*◌, ◌/◌, ℕ, ◌<◌, ◌≤◌, true, false, List, length, Option, Some, None, refl, sym, ap, ◌∙◌, arith, inl, inr}
-use Rattle.std.specs.Prelude.{◌&&◌, nat_le}
+use Rattle.std.proofs.Common.{◌≡◌, ℕ, ◌<◌, List, length, Option, Some, None, refl, sym, ap, ◌∙◌, arith, inl, inr}
+use Rattle.std.specs.Prelude.{nat_le}
 use Rattle.std.specs.Option.{option_and_then}
 use Rattle.std.proofs.lemmas.Bool.{cases_Bool, and_parts, leb-true}
 use Rattle.fk_text.specs.Found.{bytes_in}
-use Rattle.fk_text.specs.Text.{text_of}
 use Rattle.fk_text.proofs.BytesFound.{bytes_in_some}
 use Rattle.fk_text.proofs.Symbols.{length-text_of}
 use Rattle.fk_values.specs.Values.{base64_key_in, has_len_within, key_in, without_padding}

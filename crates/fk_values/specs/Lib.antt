@@ -1,1 +1,5 @@
+pub mod Given
+pub mod KeyOf
+pub mod Settings
+pub mod Stanzas
 pub mod Values

@@ -1,13 +1,16 @@
 -- What the values of the configuration files are.
-use Rattle.std.specs.Prelude.{ℕ, Bool, true, false, ◌&&◌, ◌||◌, nat_le, List, [], ◌∷◌, length, map, codes, find, Option, Some, None, is_some, if◌then◌else◌}
+use Rattle.std.specs.Prelude.{ℕ, Bool, true, false, ◌&&◌, ◌||◌, nat_le, not, List, [], ◌∷◌, length, map, codes, find, Option, Some, None, is_some, if◌then◌else◌}
 use Rattle.std.specs.List.{list_all}
-use Rattle.std.specs.Option.{option_and_then}
+use Rattle.std.specs.Option.{option_and_then, option_map}
 use Rattle.std.specs.Str.{bytes_eq, str_to_ascii_lowercase}
 use Rattle.fk_base.specs.declared.hash_kind.HashKind.{HashKind}
 use Rattle.fk_base.specs.declared.hash_kind.HashKind.TheVariants.{Md5, Sha1, Sha256, Sha384, Sha512}
+use Rattle.fk_base.specs.declared.pair.Pair.{Pair}
 use Rattle.fk_base.specs.Address.{ip_in}
+use Rattle.fk_base.specs.Characters.{is_blank}
 use Rattle.fk_base.specs.Decimal.{number_in}
 use Rattle.fk_base.specs.HashKind.{hash_kinds}
+use Rattle.fk_base.specs.PairText.{pair_in}
 use Rattle.fk_base.specs.Parts.{parts_at}
 use Rattle.fk_text.specs.Found.{bytes_in}
 use Rattle.fk_lines.specs.Lines.{trim_front, without_last}
@@ -61,16 +64,38 @@ items_left false (first ∷ others) = first ∷ map trim_front others
 abbrev pub items_of : List ℕ → List (List ℕ)
 items_of text = items_left false (parts_at 44 text)
 
--- a list of at most so many items, each of which passes a test
-abbrev pub is_list_of : (List ℕ → Bool) → ℕ → List ℕ → Bool
-is_list_of is_item most text = nat_le (length (items_of text)) most && list_all is_item (items_of text)
-
 -- an address, or an address and the number of the net's bits, from 0 to 32
 abbrev pub are_net_parts : List (List ℕ) → Bool
 are_net_parts (address ∷ []) = is_some (ip_in address)
 are_net_parts (address ∷ bits ∷ []) = is_some (ip_in address) && is_some (number_in 32 bits)
 are_net_parts _ = false
 
--- the text of a net, in which a slash (47) stands before the bits
+-- the text of a net, in which a slash (47) stands before the bits: by `nets_are_found` that of some net
 abbrev pub is_net_text : List ℕ → Bool
 is_net_text text = are_net_parts (parts_at 47 text)
+
+-- the values, where there are all
+abbrev pub all_of : {X : Type 0} → List (Option X) → Option (List X)
+all_of [] = Some []
+all_of (None ∷ others) = None
+all_of (Some x ∷ others) = option_map (λ xs. x ∷ xs) (all_of others)
+
+-- from one item to so many
+abbrev pub has_items_within : ℕ → List (List ℕ) → Bool
+has_items_within most items = nat_le 1 (length items) && nat_le (length items) most
+
+-- the pairs of items, of which there are so many at most
+abbrev pub pairs_of_items : ℕ → List (List ℕ) → Option (List Pair)
+pairs_of_items most items = if has_items_within most items then all_of (map pair_in items) else None
+
+-- a list of so many pairs at most
+abbrev pub pairs_within : ℕ → List ℕ → Option (List Pair)
+pairs_within most value = pairs_of_items most (items_of value)
+
+-- no space and no tab stands in the text
+abbrev pub is_unbroken : List ℕ → Bool
+is_unbroken text = list_all (λ byte. not (is_blank byte)) text
+
+-- the address or the name of a host: 1 to 255 bytes without a blank
+abbrev pub is_host : List ℕ → Bool
+is_host text = has_len_within 255 text && is_unbroken text

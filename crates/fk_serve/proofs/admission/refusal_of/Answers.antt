@@ -1,7 +1,7 @@
 use Rattle.std.proofs.Common.{Option, sym, subst, ◌∙◌}
 use Rattle.fk_trace.specs.declared.refusal.LogWhy.{LogWhy}
 use Rattle.fk_serve.specs.Rules.{admit}
-use Rattle.fk_codec.specs.Cutting.{fields_in}
+use Rattle.fk_plaintext.specs.Cutting.{fields_in}
 use Rattle.fk_serve.proofs.AdmissionLemmas.{IsRefusalOf, refusal-of}
 use Rattle.fk_serve.proofs.admission.refusal_of.Goals as goal
 

@@ -1,5 +1,4 @@
-use Rattle.std.proofs.Common.{subst, sym, ◌<◌, List}
-use Rattle.fk_cycle.specs.Kept.{Kept}
+use Rattle.std.proofs.Common.{◌<◌}
 use Rattle.fk_serve.proofs.ClosePlaces.{untried}
 use Rattle.fk_serve.proofs.CloseLemmas.{closed-none, closed-all, closed-may_begin, closed-more, untried-closed}
 use Rattle.fk_serve.proofs.closes.start_closes.Goals as goal
@@ -11,12 +10,13 @@ loop-id-init c =
 pub begun-requires : goal.begun-requires
 begun-requires c =
     let at = c.requires in
-    closed-may_begin c.args.words.now c.loop-id.machine.kept c.loop-id.running.items at.0 at.1 at.2 at.3 c.args.moment c.args.page.now c.loop-id.page (c.loop-id.invariant at.0 at.1 at.2 at.3 at.4 at.5) c.in-Some.id c.in-Some.ensures.stands
+    rw c.due.ensures.kept
+    (closed-may_begin c.args.words.now c.loop-id.machine.kept c.loop-id.running.items at.0 at.1 at.2 at.3 c.args.moment c.args.page.now c.loop-id.page (c.loop-id.invariant at.0 at.1 at.2 at.3 at.4 at.5) c.in-Some.id c.in-Some.ensures.stands)
 
 pub loop-id-smaller : goal.loop-id-smaller
 loop-id-smaller c =
     let at = c.requires in
-    subst (λ (kept : List Kept). untried kept < untried c.loop-id.machine.kept) (sym c.begun.ensures.kept)
+    rw (c.begun.ensures.kept, c.due.ensures.kept)
     (untried-closed c.args.words.now c.loop-id.machine.kept c.loop-id.running.items at.0 at.1 at.2 at.3 c.args.moment c.args.page.now c.loop-id.page (c.loop-id.invariant at.0 at.1 at.2 at.3 at.4 at.5) c.in-Some.id c.in-Some.ensures.stands)
 
 pub loop-id-preserved : goal.loop-id-preserved
@@ -24,10 +24,11 @@ loop-id-preserved c =
     λ digests past ends ledger keeps tried.
     rw c.in_ok-push.ensures.items
     (closed-more c.args.words.now c.loop-id.machine.kept c.loop-id.running.items digests past ends ledger c.args.moment c.args.page.now c.loop-id.page (c.loop-id.invariant digests past ends ledger keeps tried)
-    c.in-Some.id c.begun.new.self.kept c.closed.new.self c.in-Some.ensures.stands c.begun.ensures.stands c.in_ok-closed.ensures)
+    c.in-Some.id c.begun.new.self.kept c.closed.new.self c.in-Some.ensures.stands (λ before moments live stands. c.begun.ensures.stands before moments live (rw c.due.ensures.kept stands)) c.in_ok-closed.ensures)
 
 pub returns : goal.returns
 returns c =
     λ digests past ends ledger keeps tried.
-    closed-all c.args.words.now c.loop-id.machine.kept c.loop-id.running.items digests past ends ledger c.args.moment c.args.page.now c.loop-id.page (c.loop-id.invariant digests past ends ledger keeps tried)
-    c.in_default.ensures.stands tried
+    rw c.due.ensures.kept
+    (closed-all c.args.words.now c.loop-id.machine.kept c.loop-id.running.items digests past ends ledger c.args.moment c.args.page.now c.loop-id.page (c.loop-id.invariant digests past ends ledger keeps tried)
+    c.in_default.ensures.stands tried)

@@ -1,4 +1,4 @@
-use Rattle.fk_codec.specs.Cutting.{fields_in}
+use Rattle.fk_plaintext.specs.Cutting.{fields_in}
 use Rattle.fk_serve.proofs.Verdicts.{granted-iff, plain-iff, age-iff, port-iff}
 use Rattle.fk_serve.proofs.laws.trial_rules_speak_of_fields.Goals as goal
 

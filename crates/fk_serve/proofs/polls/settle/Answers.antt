@@ -3,7 +3,7 @@ use Rattle.std.proofs.lemmas.List.Elements.{All-nil}
 use Rattle.fk_base.specs.declared.purpose.Purpose.{Purpose}
 use Rattle.fk_trace.specs.Trace.{running}
 use Rattle.fk_trace.specs.declared.change.Change.{Change}
-use Rattle.fk_log.proofs.Pages.{AddsLines-nil}
+use Rattle.fk_page.proofs.Pages.{AddsLines-nil}
 use Rattle.fk_cycle.specs.Stands.{Stands}
 use Rattle.fk_serve.specs.Trial.{obligations, PartlyPolled}
 use Rattle.fk_serve.proofs.PollLemmas.{polled-next, polled-runs}

@@ -1,9 +1,9 @@
 use Rattle.std.proofs.Common.{◌≡◌, ◌<◌, ℕ, ◌+◌, List, [], ◌∷◌, ◌++◌, take, get_or, length, sym, ap, subst, ◌∙◌, arith}
 use Rattle.std.proofs.lemmas.List.{take_more, map-append}
 use Rattle.fk_base.specs.declared.purpose.Purpose.{Purpose}
-use Rattle.fk_log.specs.Log.{Line}
-use Rattle.fk_log.specs.Page.{AddsLines}
-use Rattle.fk_log.proofs.Pages.{AddsLines-append}
+use Rattle.fk_page.specs.Log.{Line}
+use Rattle.fk_page.specs.Page.{AddsLines}
+use Rattle.fk_page.proofs.Pages.{AddsLines-append}
 use Rattle.fk_serve.specs.Trial.{end_lines}
 use Rattle.fk_serve.proofs.polls.tell_ends.Goals as goal
 

@@ -1,5 +1,5 @@
 use Rattle.std.proofs.Common.{take}
-use Rattle.fk_log.specs.Page.{AddsLines}
+use Rattle.fk_page.specs.Page.{AddsLines}
 use Rattle.fk_serve.specs.Trial.{end_lines}
 use Rattle.fk_serve.proofs.polls.tell_ends.Given as goal
 

@@ -1,4 +1,4 @@
-use Rattle.std.proofs.Common.{◌≡◌, ◌<◌, length, sym, ap, ◌∙◌, arith}
+use Rattle.std.proofs.Common.{◌<◌, length, sym, ap, ◌∙◌, arith}
 use Rattle.fk_values.specs.Values.{without_padding}
 use Rattle.fk_values.proofs.LongTexts.{base64_key_in-long, base64_key_in-none, base64_key_in-some}
 use Rattle.fk_values.proofs.key.take_base64_key.Goals as goal

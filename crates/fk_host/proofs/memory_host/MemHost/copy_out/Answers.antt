@@ -1,5 +1,5 @@
-use Rattle.std.proofs.Common.{◌≡◌, ℕ, List, length, take, drop, false, ap, ◌∙◌, subst}
-use Rattle.fk_host.specs.Disk.{Areas, area_of}
+use Rattle.std.proofs.Common.{◌≡◌, length, take, drop, false, ap, ◌∙◌, subst}
+use Rattle.fk_host.specs.Disk.{area_of}
 use Rattle.fk_host.specs.Medium.{Memory, areas_after, texts}
 use Rattle.fk_host.proofs.MemoryCalls.{reads_kept}
 use Rattle.fk_host.proofs.memory_host.MemHost.copy_out.Goals as goal

@@ -1,4 +1,4 @@
-use Rattle.std.proofs.Common.{sym, subst, take, if◌then◌else◌, List, ℕ}
+use Rattle.std.proofs.Common.{sym, subst, take}
 use Rattle.std.proofs.lemmas.Result.{IfOk-weaker}
 use Rattle.fk_host.specs.Medium.{Medium, medium_after, MayHold}
 use Rattle.fk_host.specs.Sound.{sound_after, image_held}

@@ -1,7 +1,7 @@
-use Rattle.std.proofs.Common.{◌≡◌, ℕ, ◌+◌, List, [], ◌∷◌, ◌++◌, length, false, ap, ◌∙◌, arith, rules, is_err}
+use Rattle.std.proofs.Common.{◌≡◌, [], ◌∷◌, ◌++◌, length, false, ap, ◌∙◌, arith, rules, is_err}
 use Rattle.std.proofs.lemmas.List.{length_push}
-use Rattle.fk_host.specs.declared.memory_host.Call.{Call}
 use Rattle.fk_host.specs.Medium.{texts}
+use Rattle.fk_host.proofs.Fates.{counts_later}
 use Rattle.fk_host.proofs.MemoryCalls.{not_err, texts_after}
 use Rattle.fk_host.proofs.memory_host.MemHost.make.Goals as goal
 
@@ -13,6 +13,7 @@ invariant_of-self-then-failed c =
     rw items (
       (λ told. texts_after (texts c.self.inside.first) c.self.inside.calls.items c.args.call c.self.inside.present c.apply.new.self (c.self.invariant.0 told) done),
       omega (arith, length_push c.self.inside.calls.items c.args.call, c.self.invariant.1),
+      counts_later c.self.inside.children (length c.self.inside.calls.items) (length (c.self.inside.calls.items ++ c.args.call ∷ [])) (omega (arith, length_push c.self.inside.calls.items c.args.call)) c.self.invariant.2,
     )
 
 pub invariant_of-self-else-failed : goal.invariant_of-self-else-failed
@@ -23,4 +24,5 @@ invariant_of-self-else-failed c =
     rw items (
       (λ told. texts_after (texts c.self.inside.first) c.self.inside.calls.items c.args.call c.self.inside.present c.apply.new.self (c.self.invariant.0 told) done),
       omega (arith, length_push c.self.inside.calls.items c.args.call, c.self.invariant.1),
+      counts_later c.self.inside.children (length c.self.inside.calls.items) (length (c.self.inside.calls.items ++ c.args.call ∷ [])) (omega (arith, length_push c.self.inside.calls.items c.args.call)) c.self.invariant.2,
     )

@@ -1,5 +1,5 @@
 use Rattle.std.proofs.Common.{◌≡◌, ℕ, ◌+◌, ◌<◌, List, [], ◌∷◌, ◌++◌, length, take, get_or, ap, ◌∙◌, arith, rules}
-use Rattle.std.proofs.lemmas.List.{places, take_more, length-take}
+use Rattle.std.proofs.lemmas.List.{places, take_more}
 use Rattle.fk_host.specs.declared.memory_host.Call.{Call}
 use Rattle.fk_host.specs.Disk.{area_of}
 use Rattle.fk_host.specs.Medium.{Medium, at_rest, after_call, after_calls}

@@ -1,5 +1,5 @@
 use Rattle.std.proofs.Common.{◌≡◌, take}
-use Rattle.fk_host.specs.Medium.{Medium, at_rest, after_calls}
+use Rattle.fk_host.specs.Medium.{at_rest, after_calls}
 use Rattle.fk_host.specs.Disk.{area_of}
 use Rattle.fk_host.proofs.memory_host.MemHost.replayed.Given as goal
 

@@ -1,8 +1,8 @@
 use Rattle.fk_host.proofs.MemoryCalls.{other_called, leaves_host, has_cause, ok_told}
-use Rattle.fk_host.specs.Medium.{fails_next, fails_to_write}
+use Rattle.fk_host.specs.Medium.{fails_next}
 use Rattle.fk_host.specs.Disk.{area_of}
-use Rattle.std.proofs.Common.{◌≡◌, ℕ, ◌+◌, length, take, drop, List}
-use Rattle.fk_host.specs.declared.memory_host.Call.TheVariants.{Other, Write as Writes, Cut as Cuts, Sync as Syncs}
+use Rattle.std.proofs.Common.{◌≡◌, length}
+use Rattle.fk_host.specs.declared.memory_host.Call.TheVariants.{Other}
 use Rattle.fk_host.proofs.memory_host.MemHostDisk.len.Goals as goal
 
 pub returns : goal.returns

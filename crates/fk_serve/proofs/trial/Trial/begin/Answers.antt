@@ -2,7 +2,7 @@ use Rattle.std.proofs.Common.{◌≡◌, List, ◌∷◌, map, sym, ap, subst, �
 use Rattle.fk_base.specs.declared.purpose.Purpose.{Purpose}
 use Rattle.fk_trace.specs.Trace.{Child, running}
 use Rattle.fk_trace.specs.Trace.Event.{Turn}
-use Rattle.fk_log.specs.Page.{AddsLines}
+use Rattle.fk_page.specs.Page.{AddsLines}
 use Rattle.fk_serve.specs.Trial.{obligations, trial_item, end_lines, BeginsTurn}
 use Rattle.fk_serve.proofs.BeginLemmas.{begins-turn}
 use Rattle.fk_serve.proofs.trial.Trial.begin.Goals as goal

@@ -1,8 +1,8 @@
 use Rattle.std.proofs.Common.{◌≡◌, ℕ, ◌+◌, true, List, [], ◌∷◌, sym, ap, subst, ◌∙◌, arith}
 use Rattle.fk_trace.specs.Ledger.{next_id}
-use Rattle.fk_log.specs.Log.Line.{GrantedLine, OpenedLine}
-use Rattle.fk_log.specs.Page.{AddsLines}
-use Rattle.fk_log.proofs.Pages.{AddsLines-append}
+use Rattle.fk_page.specs.Log.Line.{GrantedLine, OpenedLine}
+use Rattle.fk_page.specs.Page.{AddsLines}
+use Rattle.fk_page.proofs.Pages.{AddsLines-append}
 use Rattle.fk_cycle.specs.Kept.{Kept, is_kept}
 use Rattle.fk_cycle.specs.Stands.{Stands}
 use Rattle.fk_serve.specs.Trial.{obligations}

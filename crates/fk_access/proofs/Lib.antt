@@ -1,0 +1,4 @@
+mod Rows
+pub mod ListsRead
+pub mod OneList
+pub mod StanzaSteps

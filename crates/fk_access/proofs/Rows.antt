@@ -1,0 +1,19 @@
+-- Rows that the definitions compute.
+use Rattle.std.proofs.Common.{◌≡◌, List, [], ◌∷◌, None, Some, refl}
+use Rattle.std.specs.Prelude.{codes, map}
+use Rattle.fk_lines.specs.Lines.{lines_from, lines_of}
+use Rattle.fk_access.specs.declared.access_err.AccessWhat.TheVariants.{NoKey, NoSource, Twice}
+use Rattle.fk_access.specs.AccessFault.{access_fault}
+use Rattle.fk_access.specs.StanzaLines.{stanzas_in}
+
+empty_is_right : access_fault [] ≡ None
+unfolding lines_from
+empty_is_right = refl
+
+key_is_early : access_fault (codes "KEY k") ≡ Some (1, NoSource)
+unfolding lines_from
+key_is_early = refl
+
+source_alone_lacks_a_key : access_fault (codes "SOURCE ANY") ≡ Some (1, NoKey)
+unfolding lines_from
+source_alone_lacks_a_key = refl

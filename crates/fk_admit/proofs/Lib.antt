@@ -1,0 +1,4 @@
+pub mod AllStanzas
+pub mod FirstOfAll
+pub mod KeyTests
+pub mod OneStanza

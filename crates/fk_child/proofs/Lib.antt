@@ -1,0 +1,13 @@
+pub mod Pieces
+pub mod Images
+pub mod Ties
+pub mod Counts
+pub mod Records
+pub mod Starts
+pub mod Polls
+pub mod Polling
+pub mod Opens
+pub mod Closes
+pub mod Settles
+pub mod Turns
+pub mod Served

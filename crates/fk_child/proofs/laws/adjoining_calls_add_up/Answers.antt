@@ -1,0 +1,9 @@
+use Rattle.fk_child.specs.View.{view_of}
+use Rattle.fk_child.proofs.Images.{adds-append}
+use Rattle.fk_child.proofs.laws.adjoining_calls_add_up.Goals as goal
+
+pub returns : goal.returns
+returns g c =
+    let view = view_of g.H.Disk.told g.H.Disk.may_leave g.H.Disk.faults g.H.Disk.above in
+    λ earlier later ledger a b whole one disk two.
+    adds-append earlier later ledger a b whole (view c.args.first.now) (view c.args.second.now) (view c.args.third.now) one disk two

@@ -1,0 +1,7 @@
+use Rattle.fk_host.specs.Medium.{told_of, leaves_of, above_of}
+use Rattle.fk_child.specs.Crew.{on_host}
+use Rattle.fk_child.specs.Private.{MayServe}
+use Rattle.fk_child.proofs.tests.served.Given as goal
+
+abbrev pub invariant-loop-number : goal.invariant-loop-number
+invariant-loop-number g l = MayServe l.ledger (on_host told_of leaves_of (λ host. host.faults) above_of l.crew l.host)

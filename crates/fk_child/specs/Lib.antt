@@ -1,0 +1,4 @@
+pub mod View
+pub mod Crew
+pub mod Calls
+pub mod Private

@@ -1,0 +1,82 @@
+ghost use Rattle.std.specs.Prelude.{◌≡◌, ◌∷◌, ◌++◌, IfOk, None, OnOk};
+ghost use Rattle.std.specs.Fmt.{decimal};
+ghost use Rattle.fk_fields.specs.Fields.{field_fault};
+ghost use Rattle.fk_codec.specs.Private.{ask_text, request_text};
+ghost use Rattle.fk_codec.specs.Spells.{Spells, front_of};
+
+use fk_base::{Bytes, Ip4, NoMemory, Pairs, put_decimal};
+use fk_fields::{Ask, Fields, put_message};
+use fk_mac::hash_text;
+use fk_text::put_text;
+use std::alloc::Global;
+
+/// The length of the longest plaintext.
+const LONGEST_PLAINTEXT: usize = 464;
+
+/// The one plaintext of checked fields.
+pub fn encode(alloc: Global, fields: &Fields) -> Result<Bytes, NoMemory>
+    requires { field_fault fields.now ≡ None }
+    ensures { IfOk result (λ text. Spells fields.now text) }
+{
+    fields.keep_rules();
+    let mut text = Bytes::with_room(alloc, LONGEST_PLAINTEXT)?;
+    put_front(alloc, fields, &mut text)?;
+    let digest = hash_text(alloc, fields.kind, text.as_slice())?;
+    put_part(digest.as_slice(), &mut text)?;
+    Ok(text)
+}
+
+/// Appends all that stands before the digest.
+fn put_front(alloc: Global, fields: &Fields, out: &mut Bytes) -> Result<(), NoMemory>
+    ensures { OnOk result (out.new ≡ out.old ++ front_of fields.now) }
+{
+    out.append(&fields.rand.digits())?;
+    let user = put_text(alloc, fields.user.as_slice())?;
+    put_part(user.as_slice(), out)?;
+    put_number(fields.stamp, out)?;
+    put_part(fields.version.as_slice(), out)?;
+    put_ask(alloc, &fields.ask, out)
+}
+
+/// Appends the type, the message and the seconds of a timed request, each behind a `:`.
+fn put_ask(alloc: Global, ask: &Ask, out: &mut Bytes) -> Result<(), NoMemory>
+    ensures { OnOk result (out.new ≡ out.old ++ ask_text ask.now) }
+{
+    match ask {
+        Ask::Access { ip, pairs } => put_request(alloc, b"1", *ip, pairs, out),
+        Ask::Timed { ip, pairs, seconds } => {
+            put_request(alloc, b"3", *ip, pairs, out)?;
+            put_number(u64::from(*seconds), out)
+        }
+    }
+}
+
+/// Appends the type of a request and its message, each behind a `:`.
+fn put_request(
+    alloc: Global,
+    request_type: &[u8],
+    ip: Ip4,
+    pairs: &Pairs,
+    out: &mut Bytes,
+) -> Result<(), NoMemory>
+    ensures { OnOk result (out.new ≡ out.old ++ request_text request_type.now ip pairs.now) }
+{
+    put_part(request_type, out)?;
+    let message = put_message(alloc, ip, pairs)?;
+    let text = put_text(alloc, message.as_slice())?;
+    put_part(text.as_slice(), out)
+}
+
+fn put_number(value: u64, out: &mut Bytes) -> Result<(), NoMemory>
+    ensures { OnOk result (out.new ≡ out.old ++ 58 ∷ decimal value) }
+{
+    out.append(b":")?;
+    put_decimal(value, out)
+}
+
+fn put_part(part: &[u8], out: &mut Bytes) -> Result<(), NoMemory>
+    ensures { OnOk result (out.new ≡ out.old ++ 58 ∷ part.now) }
+{
+    out.append(b":")?;
+    out.append(part)
+}

@@ -1,0 +1,3 @@
+pub mod FaultNames
+pub mod Command
+pub mod Reading

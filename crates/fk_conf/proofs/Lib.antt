@@ -1,0 +1,5 @@
+mod WordRows
+mod Rows
+pub mod WordSteps
+pub mod WordErrs
+pub mod RcSteps

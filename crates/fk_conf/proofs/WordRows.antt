@@ -1,0 +1,25 @@
+-- Command lines that the definitions read.
+use Rattle.std.proofs.Common.{◌≡◌, [], ◌∷◌, Err, Ok, refl}
+use Rattle.std.specs.Prelude.{codes}
+use Rattle.fk_conf.specs.declared.option_set.OptionSet.TheVariants.{Help, SendForAddress}
+use Rattle.fk_conf.specs.declared.tool.Tool.TheVariants.{Client, Daemon}
+use Rattle.fk_conf.specs.declared.word_fault.WordFault.TheVariants.{Modes, NoValue, Twice, Unknown}
+use Rattle.fk_conf.specs.ReadsWords.{set_read}
+
+no_words : set_read Daemon [] ≡ Err Modes
+no_words = refl
+
+client_without_words : set_read Client [] ≡ Ok SendForAddress
+client_without_words = refl
+
+trial_twice : set_read Daemon (codes "--trial" ∷ codes "--trial" ∷ []) ≡ Err (Twice 2)
+trial_twice = refl
+
+unknown_word : set_read Daemon (codes "--bogus" ∷ []) ≡ Err (Unknown 1)
+unknown_word = refl
+
+limit_without_value : set_read Daemon (codes "-C" ∷ []) ≡ Err (NoValue 1)
+limit_without_value = refl
+
+help_alone : set_read Client (codes "--help" ∷ []) ≡ Ok Help
+help_alone = refl

@@ -1,0 +1,41 @@
+-- The daemon's configuration: its names, and what their values may be.
+use Rattle.std.specs.Prelude.{ℕ, Bool, true, List, [], ◌∷◌, map, codes}
+use Rattle.std.specs.Str.{bytes_eq}
+use Rattle.fk_values.specs.Settings.{NameRule, named, reads_as}
+use Rattle.fk_values.specs.Values.{number_within}
+use Rattle.fk_conf.specs.declared.conf_name.ConfName.{ConfName}
+use Rattle.fk_conf.specs.declared.conf_name.ConfName.TheVariants.{MaxSpaPacketAge, UdpservPort, CycleLimit, JournalLimit, EnableUdpServer, EnableSpaPacketAging, EnableDigestPersistence, PcapIntf, PcapFilter, EnablePcapPromisc, SyslogIdentity, SyslogFacility, FwknopRunDir}
+
+-- `Y` and nothing else
+abbrev pub is_yes : List ℕ → Bool
+is_yes value = bytes_eq value (codes "Y")
+
+-- any value, which has no effect
+abbrev pub is_any : List ℕ → Bool
+is_any value = true
+
+-- the table of the names: the number of what each sets, and what its value may be
+abbrev pub conf_rule : ConfName → NameRule
+conf_rule MaxSpaPacketAge = named (codes "MAX_SPA_PACKET_AGE") 0 (reads_as (number_within 1 31536000))
+conf_rule UdpservPort = named (codes "UDPSERV_PORT") 1 (reads_as (number_within 1 65535))
+conf_rule CycleLimit = named (codes "CYCLE_LIMIT") 2 (reads_as (number_within 1 4096))
+conf_rule JournalLimit = named (codes "JOURNAL_LIMIT") 3 (reads_as (number_within 16 67108864))
+conf_rule EnableUdpServer = named (codes "ENABLE_UDP_SERVER") 4 is_yes
+conf_rule EnableSpaPacketAging = named (codes "ENABLE_SPA_PACKET_AGING") 5 is_yes
+conf_rule EnableDigestPersistence = named (codes "ENABLE_DIGEST_PERSISTENCE") 6 is_yes
+conf_rule PcapIntf = named (codes "PCAP_INTF") 7 is_any
+conf_rule PcapFilter = named (codes "PCAP_FILTER") 8 is_any
+conf_rule EnablePcapPromisc = named (codes "ENABLE_PCAP_PROMISC") 9 is_any
+conf_rule SyslogIdentity = named (codes "SYSLOG_IDENTITY") 10 is_any
+conf_rule SyslogFacility = named (codes "SYSLOG_FACILITY") 11 is_any
+conf_rule FwknopRunDir = named (codes "FWKNOP_RUN_DIR") 12 is_any
+
+-- every name
+abbrev pub conf_names : List ConfName
+conf_names =
+    MaxSpaPacketAge ∷ UdpservPort ∷ CycleLimit ∷ JournalLimit ∷ EnableUdpServer ∷ EnableSpaPacketAging ∷ EnableDigestPersistence
+    ∷ PcapIntf ∷ PcapFilter ∷ EnablePcapPromisc ∷ SyslogIdentity ∷ SyslogFacility ∷ FwknopRunDir ∷ []
+
+-- the rules of all names
+abbrev pub conf_rules : List NameRule
+conf_rules = map conf_rule conf_names

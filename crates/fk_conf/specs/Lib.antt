@@ -1,0 +1,14 @@
+pub mod CommandOptions
+pub mod Conf
+pub mod ConfErr
+pub mod ConfWhat
+pub mod OptionSets
+pub mod RcFault
+pub mod RcNames
+pub mod RcPrivate
+pub mod RcTable
+pub mod ReadsConf
+pub mod ReadsRc
+pub mod ReadsWords
+pub mod WordFaults
+pub mod WordPlaces

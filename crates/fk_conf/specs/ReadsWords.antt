@@ -1,0 +1,106 @@
+-- What the words of a command line ask for.
+use Rattle.std.specs.Prelude.{◌≡◌, ℕ, Bool, true, false, ◌||◌, List, [], codes, find, Option, Some, None, unwrap_or, Result, Ok, Err, if◌then◌else◌}
+use Rattle.std.specs.Option.{option_and_then, option_or}
+use Rattle.fk_base.specs.Address.{ip_in}
+use Rattle.fk_base.specs.declared.address.Ip4.{Ip4}
+use Rattle.fk_values.specs.Values.{number_within}
+use Rattle.fk_conf.specs.declared.command.Command.{Command}
+use Rattle.fk_conf.specs.declared.command.Command.TheVariants as command
+use Rattle.fk_conf.specs.declared.command.SendWords.{SendWords}
+use Rattle.fk_conf.specs.declared.command_option.CommandOption.{CommandOption}
+use Rattle.fk_conf.specs.declared.command_option.CommandOption.TheVariants.{ConfFile, AccessFile, PacketLimit, TurnLimit, Verbose, Quiet, StanzaName, RcFileName, PairList, Address, PacketSource, Server, ServerPort, Seconds, Print}
+use Rattle.fk_conf.specs.declared.option_set.OptionSet.{OptionSet}
+use Rattle.fk_conf.specs.declared.option_set.OptionSet.TheVariants.{Serve, Trial, List as FwList, SendForAddress, SendForSource, KeyGen, Help, Version}
+use Rattle.fk_conf.specs.declared.tool.Tool.{Tool}
+use Rattle.fk_conf.specs.declared.word_fault.WordFault.{WordFault}
+use Rattle.fk_conf.specs.declared.word_fault.WordFault.TheVariants.{Modes, NoMemory}
+use Rattle.fk_conf.specs.CommandOptions.{option_rule, pairs_unbroken}
+use Rattle.fk_conf.specs.OptionSets.{fits, sets_of, stands}
+use Rattle.fk_conf.specs.WordFaults.{words_fault}
+use Rattle.fk_conf.specs.WordPlaces.{is_only, word_behind}
+
+-- the set that words make which fail this test, or none, where their options fit this set, or none
+abbrev pub set_unless : Option WordFault → Option OptionSet → Result OptionSet WordFault
+set_unless (Some fault) set = Err fault
+set_unless None None = Err Modes
+set_unless None (Some set) = Ok set
+
+-- The set that words make, or the first test that they fail. Help and version stand alone.
+abbrev pub set_read : Tool → List (List ℕ) → Result OptionSet WordFault
+set_read tool words =
+    if is_only (codes "--help") words then Ok Help
+    else (if is_only (codes "--version") words then Ok Version
+    else set_unless (words_fault tool [] false words) (find (fits tool words) (sets_of tool)))
+
+-- the value of an option, where it is given
+abbrev pub value_of : CommandOption → List (List ℕ) → Option (List ℕ)
+value_of option words = word_behind (option_rule option).word words
+
+-- what the value of an option reads as, where it is given
+abbrev pub read_from : {X : Type 0} → (List ℕ → Option X) → CommandOption → List (List ℕ) → Option X
+read_from read option words = option_and_then read (value_of option words)
+
+-- how many packets or turns an option limits a run to, where it is given
+abbrev pub limit_of : CommandOption → List (List ℕ) → Option ℕ
+limit_of option words = read_from (number_within 1 1000000000) option words
+
+-- the address that is asked for: a given one, or 0.0.0.0 for the one that the packet comes from
+abbrev pub address_of : List (List ℕ) → Option Ip4
+address_of words = option_or (read_from ip_in Address words) (if stands PacketSource words then Some (record { 0 = 0 }) else None)
+
+-- the names of the daemon's two files, of which each set that asks for them has both
+pub record IsNamed (words : List (List ℕ)) (conf access : List ℕ) : Type 0 where
+  pub conf_is : conf ≡ unwrap_or (value_of ConfFile words) []
+  pub access_is : access ≡ unwrap_or (value_of AccessFile words) []
+
+-- what the words of a client say
+pub record IsSend (words : List (List ℕ)) (send : SendWords) : Type 0 where
+  pub name : send.name ≡ unwrap_or (value_of StanzaName words) (codes "default")
+  pub file : send.file ≡ unwrap_or (value_of RcFileName words) (codes ".fwknoprc")
+  pub pairs : send.pairs ≡ read_from pairs_unbroken PairList words
+  pub allow : send.allow ≡ address_of words
+  pub server : send.server ≡ value_of Server words
+  pub port : send.port ≡ read_from (number_within 1 65535) ServerPort words
+  pub seconds : send.seconds ≡ read_from (number_within 1 604800) Seconds words
+  pub print : send.print ≡ stands Print words
+
+-- the words of this set ask for this
+abbrev pub IsCommand : List (List ℕ) → OptionSet → Command → Type 0
+IsCommand words Serve (command.Serve conf access packets turns verbose) =
+    IsNamed words conf access
+    × ((packets ≡ limit_of PacketLimit words) × (turns ≡ limit_of TurnLimit words) × (verbose ≡ stands Verbose words))
+IsCommand words Trial (command.Trial conf access quiet verbose) =
+    IsNamed words conf access × ((quiet ≡ stands Quiet words) × (verbose ≡ stands Verbose words))
+IsCommand words FwList command.List = Unit {0}
+IsCommand words SendForAddress (command.Send send) = IsSend words send
+IsCommand words SendForSource (command.Send send) = IsSend words send
+IsCommand words KeyGen command.KeyGen = Unit {0}
+IsCommand words Help command.Help = Unit {0}
+IsCommand words Version command.Version = Unit {0}
+IsCommand words _ _ = ⊥
+
+-- the words fail no test, and ask for this
+pub record ReadsWords (tool : Tool) (words : List (List ℕ)) (command : Command) : Type 0 where
+  pub set : OptionSet
+  pub reads : set_read tool words ≡ Ok set
+  pub asks : IsCommand words set command
+
+-- a command of this set keeps names
+abbrev pub keeps_names : OptionSet → Bool
+keeps_names Serve = true
+keeps_names Trial = true
+keeps_names SendForAddress = true
+keeps_names SendForSource = true
+keeps_names _ = false
+
+-- the words fail no test, and ask for what keeps names
+pub record AsksForNames (tool : Tool) (words : List (List ℕ)) : Type 0 where
+  pub set : OptionSet
+  pub reads : set_read tool words ≡ Ok set
+  pub keeps : keeps_names set ≡ true
+
+-- The answer where there is no command: the first test that the words fail, or want of memory, which is asked for only to keep
+-- names.
+abbrev pub IsWordErr : Tool → List (List ℕ) → WordFault → Type 0
+IsWordErr tool words NoMemory = AsksForNames tool words
+IsWordErr tool words fault = set_read tool words ≡ Err fault

@@ -1,0 +1,68 @@
+ghost use Rattle.std.specs.Prelude.{◌≡◌};
+ghost use Rattle.fk_conf.specs.CommandOptions.{options_of};
+ghost use Rattle.fk_conf.specs.OptionSets.{sets_of};
+
+use crate::command_option::CommandOption;
+use crate::option_set::OptionSet;
+
+/// Whose command line is read.
+#[derive(Clone, Copy, Debug, PartialEq, Eq)]
+pub enum Tool {
+    Daemon,
+    Client,
+}
+
+static DAEMON_OPTIONS: [CommandOption; 9] = [
+    CommandOption::Foreground,
+    CommandOption::ConfFile,
+    CommandOption::AccessFile,
+    CommandOption::PacketLimit,
+    CommandOption::TurnLimit,
+    CommandOption::Verbose,
+    CommandOption::Trial,
+    CommandOption::Quiet,
+    CommandOption::FwList,
+];
+
+static CLIENT_OPTIONS: [CommandOption; 10] = [
+    CommandOption::StanzaName,
+    CommandOption::RcFileName,
+    CommandOption::PairList,
+    CommandOption::Address,
+    CommandOption::PacketSource,
+    CommandOption::Server,
+    CommandOption::ServerPort,
+    CommandOption::Seconds,
+    CommandOption::Print,
+    CommandOption::NewKeys,
+];
+
+static DAEMON_SETS: [OptionSet; 3] = [OptionSet::Serve, OptionSet::Trial, OptionSet::List];
+
+static CLIENT_SETS: [OptionSet; 3] = [
+    OptionSet::SendForAddress,
+    OptionSet::SendForSource,
+    OptionSet::KeyGen,
+];
+
+impl Tool {
+    /// The options that it has.
+    pub(crate) fn options(self) -> &'static [CommandOption]
+        ensures { result.now ≡ options_of self }
+    {
+        match self {
+            Tool::Daemon => &DAEMON_OPTIONS,
+            Tool::Client => &CLIENT_OPTIONS,
+        }
+    }
+
+    /// The sets that its options may make.
+    pub(crate) fn sets(self) -> &'static [OptionSet]
+        ensures { result.now ≡ sets_of self }
+    {
+        match self {
+            Tool::Daemon => &DAEMON_SETS,
+            Tool::Client => &CLIENT_SETS,
+        }
+    }
+}

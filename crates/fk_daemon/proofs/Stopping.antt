@@ -1,0 +1,283 @@
+-- A run from its beginning to its stop.
+use Rattle.std.proofs.Common.{◌≡◌, ℕ, ◌<◌, Bool, true, false, IsTrue, List, [], ◌∷◌, ◌++◌, length, map, refl, sym, ap, ◌∙◌, subst, ◌⊎◌, inl, inr, append_assoc, append-nil}
+use Rattle.std.specs.List.{AllPairs}
+use Rattle.std.proofs.lemmas.List.{map-append}
+use Rattle.fk_trace.specs.declared.change.Change.{Change}
+use Rattle.fk_trace.specs.Trace.{Item, Child, children, past_after}
+use Rattle.fk_trace.specs.Ledger.{live}
+use Rattle.fk_trace.specs.Decision.{FeedTurn, Rules}
+use Rattle.fk_trace.proofs.Splits.{none_before}
+use Rattle.fk_trace.proofs.Settled.{past_after-append}
+use Rattle.fk_run.specs.Place.{Place, entry}
+use Rattle.fk_run.specs.Turn.{TakenTurn, CutTurn, after_turns}
+use Rattle.fk_run.specs.Run.{Run, Ending, cuts_turn}
+use Rattle.fk_run.specs.Run.Ending.{AtLimit, AtEnd, AtFeedFault, AtDiskFault, AtWantOfMemory}
+use Rattle.fk_run.specs.Planned.{planned}
+use Rattle.fk_run.specs.Ending.{ReachesLimit, FitsLimits, WantsAtDatagram, WantsAtClose}
+use Rattle.fk_run.proofs.Owed.{past-after_turns}
+use Rattle.fk_host.specs.Count.{counted}
+use Rattle.fk_ledger.specs.Book.{live_ids}
+use Rattle.fk_log.specs.Line.{Line}
+use Rattle.fk_log.specs.Log.{RefusalLine, MayTell, MayTellAt, opening_lines, lines_of_turns, turn_lines}
+use Rattle.fk_log.specs.Log.Opening.{Opened}
+use Rattle.fk_log.specs.Log.RefusalLine.{Told, Untold}
+use Rattle.fk_log.specs.Writing.{Logs}
+use Rattle.fk_log.proofs.Turns.{lines_of_turns-append}
+use Rattle.fk_child.specs.View.{Adds}
+use Rattle.fk_turn.specs.Rules.{rules_by}
+use Rattle.fk_turn.specs.Serving.{FailsAtDisk, WantsMemory, OwesItsLive}
+use Rattle.fk_daemon.specs.declared.task.Task.{Task}
+use Rattle.fk_daemon.specs.declared.session.Session.{Session}
+use Rattle.fk_daemon.specs.declared.session.Stop.{Stop}
+use Rattle.fk_daemon.specs.declared.session.Stop.TheVariants as stop
+use Rattle.fk_daemon.specs.Outside.{Feeds}
+use Rattle.fk_daemon.specs.Account.{Account, FailsNext, IsServing, is_whole}
+use Rattle.fk_daemon.specs.Serving.{HasCauses}
+use Rattle.fk_daemon.specs.Sessions.{Standing, Takes, TakesNone, SumsUp, MaySumUp, Finishes, ending_of, run_of, output_of, scene_of}
+use Rattle.fk_daemon.proofs.Behind.{items_in, changes_in, items-push, changes-push, ledger-behind, last-push, legal-whole, legal-cut, planned-push, feeds-then, cases-push, last-one}
+use Rattle.fk_daemon.proofs.Going.{Going, adds-behind, logs-behind, going-none}
+
+-- no two children of these items have one number, and later ones have greater ones
+abbrev pub AreNumbered : List Item → Type 0
+AreNumbered past = AllPairs (λ (a b : Child). a.number < b.number) (children past)
+
+numbered-behind : (task : Task) (ledger : List Change) (turns : List TakenTurn) (old now : Standing) → Going task ledger turns old now
+    → AreNumbered (past_after [] (items_in turns))
+numbered-behind task ledger turns old now going =
+    subst AreNumbered (past-after_turns (entry ledger) turns) going.rests.stands.stands.tied.stands.orderly.numbered
+
+numbered-cut : (task : Task) (ledger : List Change) (turns : List TakenTurn) (taken : TakenTurn)
+    → AreNumbered (past_after (after_turns (entry ledger) turns).past taken.items) → AreNumbered (past_after [] (items_in (turns ++ taken ∷ [])))
+numbered-cut task ledger turns taken numbered =
+    subst AreNumbered
+    (ap (λ (past : List Item). past_after past taken.items) (past-after_turns (entry ledger) turns)
+    ∙ sym (past_after-append [] (items_in turns) taken.items) ∙ ap (λ (items : List Item). past_after [] items) (sym (items-push turns taken)))
+    numbered
+
+parks-behind : (task : Task) (ledger : List Change) (turns : List TakenTurn) (old now : Standing) → Going task ledger turns old now → OwesItsLive now.session.daemon
+parks-behind task ledger turns old now going =
+    going.rests.stands.stands.tied.owes ∙ ap live_ids (sym going.rests.stands.changes)
+
+sums-behind : (task : Task) (ledger : List Change) (faults : ℕ) (ending : Ending) (turns : List TakenTurn) (old now : Standing) → Going task ledger turns old now
+    → SumsUp now.session (run_of task ledger faults ending turns)
+sums-behind task ledger faults ending turns old now going = record {
+  turns = going.turns_are;
+  live = ap (λ (changes : List Change). length (live changes)) (going.rests.stands.changes ∙ ledger-behind (entry ledger) turns);
+}
+
+may_sum : (how : Stop) (session : Session) (run : Run) → SumsUp session run → MaySumUp how session run
+may_sum stop.Limit session run sums = sums
+may_sum stop.End session run sums = sums
+may_sum stop.FeedFault session run sums = tt
+may_sum stop.DiskFault session run sums = tt
+may_sum stop.NoMemory session run sums = tt
+
+-- the account of a run in which no turn was cut
+abbrev pub uncut : Task → List Change → ℕ → Ending → List TakenTurn → Account
+uncut task ledger faults ending turns = record { run = run_of task ledger faults ending turns; opening = Opened; refusal = Told; failing = [] }
+
+serving-uncut : (task : Task) (ledger : List Change) (ending : Ending) (turns : List TakenTurn) (old now : Standing) → Going task ledger turns old now
+    → cuts_turn ending ≡ false → FitsLimits task.limits turns ending → MayTell (run_of task ledger old.outside.host.faults ending turns) Told
+    → FailsNext ending [] (run_of task ledger old.outside.host.faults ending turns)
+    → IsServing task (uncut task ledger old.outside.host.faults ending turns)
+serving-uncut task ledger ending turns old now going whole fits tells fails = record {
+  rules = refl;
+  legal = record {
+    turns = legal-whole (rules_by task.policy) (entry ledger) ending turns going.whole;
+    no_fault_before = going.adds.faults;
+    numbered = numbered-behind task ledger turns old now going;
+  };
+  limits = record { fits = fits; before = going.before };
+  memory = λ wants front last placed. absurd (let never : true ≡ false = ap cuts_turn (sym wants) ∙ whole in cc);
+  wants = λ wants none. let never : true ≡ false = ap cuts_turn (sym wants) ∙ whole in cc;
+  opens = tt;
+  tells = tells;
+  fails = fails;
+}
+
+finish-uncut : (task : Task) (ledger : List Change) (how : Stop) (turns : List TakenTurn) (old now : Standing) → Going task ledger turns old now
+    → IsServing task (uncut task ledger old.outside.host.faults (ending_of how) turns) → is_whole (ending_of how) ≡ true
+    → HasCauses (ending_of how) old.outside now.outside → Finishes task ledger how old now
+finish-uncut task ledger how turns old now going serving whole caused = record {
+  account = uncut task ledger old.outside.host.faults (ending_of how) turns;
+  turns = turns;
+  is = refl;
+  serving = serving;
+  given = going.given;
+  adds = subst (λ (w : Bool). Adds (items_in turns) ledger (changes_in turns ++ []) w old.outside.host now.outside.host) (sym whole)
+      (subst (λ (changes : List Change). Adds (items_in turns) ledger changes true old.outside.host now.outside.host) (sym (append-nil (changes_in turns))) going.adds);
+  caused = caused;
+  logs = going.logs;
+  parks = parks-behind task ledger turns old now going;
+  sums = may_sum how now.session (run_of task ledger old.outside.host.faults (ending_of how) turns) (sums-behind task ledger old.outside.host.faults (ending_of how) turns old now going);
+}
+
+-- a limit was reached
+pub finish-limit : (task : Task) (ledger : List Change) (turns : List TakenTurn) (old now : Standing) → Going task ledger turns old now
+    → now.outside.feed.faults ≡ old.outside.feed.faults → ReachesLimit task.limits turns → Finishes task ledger stop.Limit old now
+finish-limit task ledger turns old now going calm reached =
+    finish-uncut task ledger stop.Limit turns old now going (serving-uncut task ledger AtLimit turns old now going refl reached refl refl) refl
+    (record { feed = calm; disk = going.disk; end = tt })
+
+-- the feed has ended
+pub finish-end : (task : Task) (ledger : List Change) (turns : List TakenTurn) (old mid new : Standing) → Going task ledger turns old mid
+    → mid.outside.feed.faults ≡ old.outside.feed.faults → (ReachesLimit task.limits turns → ⊥)
+    → TakesNone task.policy.conf.now (after_turns (entry ledger) turns) mid new → new.outside.feed.faults ≡ mid.outside.feed.faults
+    → new.outside.feed.has_ended ≡ true → Finishes task ledger stop.End old new
+finish-end task ledger turns old mid new going calm under none same ended =
+    let there = going-none task ledger turns old mid new going none in
+    finish-uncut task ledger stop.End turns old new there (serving-uncut task ledger AtEnd turns old new there refl under refl refl) refl
+    (record { feed = same ∙ calm; disk = there.disk; end = ended })
+
+-- the feed failed
+pub finish-feed : (task : Task) (ledger : List Change) (turns : List TakenTurn) (old mid new : Standing) → Going task ledger turns old mid
+    → mid.outside.feed.faults ≡ old.outside.feed.faults → (ReachesLimit task.limits turns → ⊥)
+    → TakesNone task.policy.conf.now (after_turns (entry ledger) turns) mid new → new.outside.feed.faults ≡ counted mid.outside.feed.faults
+    → Finishes task ledger stop.FeedFault old new
+finish-feed task ledger turns old mid new going calm under none fails =
+    let there = going-none task ledger turns old mid new going none in
+    finish-uncut task ledger stop.FeedFault turns old new there (serving-uncut task ledger AtFeedFault turns old new there refl under refl refl) refl
+    (record { feed = fails ∙ ap counted calm; disk = there.disk; end = tt })
+
+-- the account of a run whose last turn was cut
+abbrev pub cut_short : Task → List Change → ℕ → Ending → List TakenTurn → RefusalLine → List Change → Account
+cut_short task ledger faults ending turns refusal failing =
+    record { run = run_of task ledger faults ending turns; opening = Opened; refusal = refusal; failing = failing }
+
+module _ (task : Task) (ledger : List Change) (turns : List TakenTurn) (old mid new : Standing) (taken : TakenTurn) (going : Going task ledger turns old mid) where
+  abbrev place : Place
+  place = after_turns (entry ledger) turns
+
+  abbrev all : List TakenTurn
+  all = turns ++ taken ∷ []
+
+  abbrev Wants : List TakenTurn → TakenTurn → Type 0
+  Wants front last =
+      WantsAtDatagram (rules_by task.policy) (after_turns (entry ledger) front) last ⊎ WantsAtClose (rules_by task.policy) (after_turns (entry ledger) front) last
+
+  -- what is said of the turn that was cut
+  record Cuts (ending : Ending) (refusal : RefusalLine) (failing : List Change) (whole : Bool) : Type 0 where
+    may : IsTrue (cuts_turn ending)
+    fits : FitsLimits task.limits all ending
+    cut : CutTurn (rules_by task.policy) place taken
+    numbered : AreNumbered (past_after place.past taken.items)
+    adds : Adds taken.items place.ledger (taken.changes ++ failing) whole mid.outside.host new.outside.host
+    wants : ending ≡ AtWantOfMemory → Wants turns taken
+    tells : MayTellAt ending taken.items refusal
+    fails : FailsNext ending failing (run_of task ledger old.outside.host.faults ending all)
+    logs : Logs (turn_lines (rules_by task.policy) place refusal taken) (output_of mid) (output_of new)
+
+  cut-adds : (ending : Ending) (refusal : RefusalLine) (failing : List Change) (whole : Bool) → Cuts ending refusal failing whole
+      → Adds (items_in all) ledger (changes_in all ++ failing) whole old.outside.host new.outside.host
+  cut-adds ending refusal failing whole cuts =
+      let more = adds-behind task ledger turns old mid new going taken.items (taken.changes ++ failing) whole cuts.adds in
+      let items : Adds (items_in all) ledger (changes_in turns ++ (taken.changes ++ failing)) whole old.outside.host new.outside.host =
+      subst (λ (items : List Item). Adds items ledger (changes_in turns ++ (taken.changes ++ failing)) whole old.outside.host new.outside.host) (sym (items-push turns taken)) more in
+      subst (λ (changes : List Change). Adds (items_in all) ledger changes whole old.outside.host new.outside.host)
+      (sym (append_assoc (changes_in turns) taken.changes failing) ∙ ap (λ (changes : List Change). changes ++ failing) (sym (changes-push turns taken))) items
+
+  serving-cut : (ending : Ending) (refusal : RefusalLine) (failing : List Change) (whole : Bool) → Cuts ending refusal failing whole → (ReachesLimit task.limits turns → ⊥)
+      → IsServing task (cut_short task ledger old.outside.host.faults ending all refusal failing)
+  serving-cut ending refusal failing whole cuts under = record {
+    rules = refl;
+    legal = record {
+      turns = legal-cut (rules_by task.policy) (entry ledger) ending turns taken cuts.may going.whole cuts.cut;
+      no_fault_before = (cut-adds ending refusal failing whole cuts).faults;
+      numbered = numbered-cut task ledger turns taken cuts.numbered;
+    };
+    limits = record {
+      fits = cuts.fits;
+      before = λ front other later e reached. elim (cases-push turns taken front other later e) [
+        | inl within ↦ going.before front other within.0 within.1 reached
+        | inr last ↦ under (subst (ReachesLimit task.limits) last.0 reached)
+      ];
+    };
+    wants = λ wants none. none_before turns taken [] (sym none);
+    memory = λ wants front last placed.
+        let one = last-one turns front taken last placed in
+        subst (λ (t : TakenTurn). Wants front t) (sym one.1) (subst (λ (f : List TakenTurn). Wants f taken) (sym one.0) (cuts.wants wants));
+    opens = tt;
+    tells = subst (λ (items : List Item). MayTellAt ending items refusal) (sym (last-push [] turns taken)) cuts.tells;
+    fails = cuts.fails;
+  }
+
+  cut-logs : (ending : Ending) (refusal : RefusalLine) (failing : List Change) (whole : Bool) → Cuts ending refusal failing whole
+      → Logs (opening_lines Opened ledger ++ lines_of_turns (rules_by task.policy) (entry ledger) refusal all) (output_of old) (output_of new)
+  cut-logs ending refusal failing whole cuts =
+      subst (λ (lines : List Line). Logs (opening_lines Opened ledger ++ lines) (output_of old) (output_of new))
+      (sym (lines_of_turns-append (rules_by task.policy) (entry ledger) refusal turns taken))
+      (logs-behind task ledger turns old mid (output_of new) going (turn_lines (rules_by task.policy) place refusal taken) cuts.logs)
+
+  cut-given : (turn : FeedTurn) → taken.turn ≡ turn → Takes turn mid.outside new.outside
+      → Feeds Opened task.policy.conf.now.port (map (λ t. t.turn) all) old.outside.feed.given new.outside.feed.given
+  cut-given turn is takes =
+      let feed = feeds-then task.policy.conf.now.port (map (λ (t : TakenTurn). t.turn) turns) (turn ∷ []) old.outside.feed.given mid.outside.feed.given new.outside.feed.given going.given takes.given in
+      subst (λ (given : List FeedTurn). Feeds Opened task.policy.conf.now.port given old.outside.feed.given new.outside.feed.given)
+      (ap (λ (t : FeedTurn). map (λ (t : TakenTurn). t.turn) turns ++ t ∷ []) (sym is) ∙ sym (map-append (λ (t : TakenTurn). t.turn) turns (taken ∷ []))) feed
+
+-- the disk failed in a turn
+pub finish-disk : (task : Task) (ledger : List Change) (turns : List TakenTurn) (old mid new : Standing) (turn : FeedTurn) → Going task ledger turns old mid
+    → mid.outside.feed.faults ≡ old.outside.feed.faults → (ReachesLimit task.limits turns → ⊥) → Takes turn mid.outside new.outside
+    → FailsAtDisk task.policy (after_turns (entry ledger) turns) turn (scene_of mid) (scene_of new) → Finishes task ledger stop.DiskFault old new
+finish-disk task ledger turns old mid new turn going calm under takes fails =
+    let taken : TakenTurn = fails.taken in
+    let rules : Rules = rules_by task.policy in
+    let next : List Change = fails.next ∷ [] in
+    let planned_is : changes_in (turns ++ taken ∷ []) ++ fails.next ∷ fails.later ≡ planned (run_of task ledger old.outside.host.faults AtDiskFault (turns ++ taken ∷ [])) =
+    ap (λ (changes : List Change). changes ++ fails.next ∷ fails.later) (changes-push turns taken) ∙ append_assoc (changes_in turns) taken.changes (fails.next ∷ fails.later)
+    ∙ ap (λ (made : List Change). changes_in turns ++ made) fails.planned ∙ sym (planned-push rules (entry ledger) turns taken going.whole) in
+    let cuts : Cuts task ledger turns old mid new taken going AtDiskFault Untold next false =
+    record {
+      may = refl;
+      fits = tt;
+      cut = fails.cut;
+      numbered = fails.numbered;
+      adds = fails.adds;
+      wants = λ wants. absurd cc;
+      tells = refl;
+      fails = (fails.next, fails.later, refl, planned_is);
+      logs = fails.logs;
+    } in
+    record {
+      account = cut_short task ledger old.outside.host.faults AtDiskFault (turns ++ taken ∷ []) Untold next;
+      turns = turns ++ taken ∷ [];
+      is = refl;
+      serving = serving-cut task ledger turns old mid new taken going AtDiskFault Untold next false cuts under;
+      given = cut-given task ledger turns old mid new taken going turn fails.of_turn takes;
+      adds = cut-adds task ledger turns old mid new taken going AtDiskFault Untold next false cuts;
+      caused = record { feed = takes.faults ∙ calm; disk = fails.disk ∙ ap counted going.disk; end = tt };
+      logs = cut-logs task ledger turns old mid new taken going AtDiskFault Untold next false cuts;
+      parks = fails.parks;
+      sums = tt;
+    }
+
+-- memory was wanting in a turn
+pub finish-memory : (task : Task) (ledger : List Change) (turns : List TakenTurn) (old mid new : Standing) (turn : FeedTurn) → Going task ledger turns old mid
+    → mid.outside.feed.faults ≡ old.outside.feed.faults → (ReachesLimit task.limits turns → ⊥) → Takes turn mid.outside new.outside
+    → WantsMemory task.policy (after_turns (entry ledger) turns) turn (scene_of mid) (scene_of new) → Finishes task ledger stop.NoMemory old new
+finish-memory task ledger turns old mid new turn going calm under takes wants =
+    let taken : TakenTurn = wants.taken in
+    let cuts : Cuts task ledger turns old mid new taken going AtWantOfMemory wants.told [] true =
+    record {
+      may = refl;
+      fits = tt;
+      cut = wants.cut;
+      numbered = wants.numbered;
+      adds = subst (λ (changes : List Change). Adds taken.items (after_turns (entry ledger) turns).ledger changes true mid.outside.host new.outside.host) (sym (append-nil taken.changes)) wants.adds;
+      wants = λ e. wants.cause;
+      tells = wants.may;
+      fails = refl;
+      logs = wants.logs;
+    } in
+    record {
+      account = cut_short task ledger old.outside.host.faults AtWantOfMemory (turns ++ taken ∷ []) wants.told [];
+      turns = turns ++ taken ∷ [];
+      is = refl;
+      serving = serving-cut task ledger turns old mid new taken going AtWantOfMemory wants.told [] true cuts under;
+      given = cut-given task ledger turns old mid new taken going turn wants.of_turn takes;
+      adds = cut-adds task ledger turns old mid new taken going AtWantOfMemory wants.told [] true cuts;
+      caused = record { feed = takes.faults ∙ calm; disk = wants.disk ∙ going.disk; end = tt };
+      logs = cut-logs task ledger turns old mid new taken going AtWantOfMemory wants.told [] true cuts;
+      parks = wants.parks;
+      sums = tt;
+    }

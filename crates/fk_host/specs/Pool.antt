@@ -1,0 +1,9 @@
+-- Random bytes in memory.
+use Rattle.std.specs.Prelude.{ℕ, List}
+
+-- where entropy in memory stands
+pub record Pool : Type 0 where
+  -- the bytes that it has left
+  pub left : List ℕ
+  -- how often it has failed
+  pub faults : ℕ

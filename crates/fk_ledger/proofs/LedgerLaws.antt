@@ -1,0 +1,145 @@
+-- One ledger at most is held, and nothing that is held is damaged.
+use Rattle.std.proofs.Common.{◌≡◌, ℕ, ◌<◌, ◌^◌, List, [], ◌∷◌, ◌++◌, length, refl, sym, ap, subst, ◌∙◌, append_assoc, arith, inl, inr, Some}
+use Rattle.std.specs.Int.{w64, to_be_bytes, from_be_bytes}
+use Rattle.std.specs.List.{AllByRecursion, All}
+use Rattle.std.proofs.lemmas.List.{append-nil}
+use Rattle.fk_base.specs.declared.pair.Proto.{Proto}
+use Rattle.fk_base.specs.declared.pair.Proto.TheVariants.{Tcp, Udp}
+use Rattle.fk_base.specs.declared.pair.Pair.{Pair}
+use Rattle.fk_base.specs.declared.address.Ip4.{Ip4}
+use Rattle.fk_base.specs.declared.digest.Digest.{Digest}
+use Rattle.fk_base.specs.CommandWords.{AreCommandWords}
+use Rattle.fk_base.proofs.PairTexts.{Pair-same}
+use Rattle.fk_trace.specs.declared.change.OpenRecord.{OpenRecord}
+use Rattle.fk_trace.specs.declared.change.Change.{Change}
+use Rattle.fk_trace.specs.declared.change.Change.TheVariants.{Open, Done}
+use Rattle.fk_trace.specs.Ledger.{MayFollow, IsLedgerFrom}
+use Rattle.fk_host.specs.Disk.{Areas}
+use Rattle.fk_journal.specs.Entries.{Content, place_behind}
+use Rattle.fk_journal.specs.Keeps.{selected}
+use Rattle.fk_journal.proofs.Uniqueness.{one_list, not_both, one_place}
+use Rattle.fk_ledger.specs.declared.reading.Head.{Head}
+use Rattle.fk_ledger.specs.Payloads.{proto_number, words_bytes, record_bytes, content_of, ledger_contents, IsRecord, IsChange}
+use Rattle.fk_ledger.specs.Holds.{HoldsLedger, IsBroken, IsLedgerDamagedAt}
+use Rattle.fk_ledger.specs.Reading.{head_at, words_in}
+use Rattle.fk_ledger.proofs.WordLists.{length-concat-take}
+use Rattle.fk_ledger.proofs.PayloadLaws.{some_is, HeadFits, head_again, words_again, wide64}
+
+-- the values of a record before its words
+abbrev pub head_of : OpenRecord → Head
+head_of item = record { id = item.id; digest = item.digest.0; moment = item.moment; due = item.due; ip = item.ip.0; proto = proto_number item.pair.proto; port = item.pair.port }
+
+pub head_fits : (item : OpenRecord) → IsRecord item → HeadFits (head_of item)
+head_fits item is = record { id = is.id; digest = is.digest; moment = (let m = is.moment in omega arith); due = is.due; ip = is.ip; port = is.port }
+
+pub small_words : (words : List (List ℕ)) → AreCommandWords words → All (λ word. length word < 2 ^ 16) words
+small_words words are = λ k d within. let sizes = length-concat-take words k d within in let short = are.short in omega arith
+
+-- what a record's payload is read as
+pub record_read : (item : OpenRecord) (bytes : List ℕ) → IsRecord item → bytes ≡ record_bytes item → (head_at bytes ≡ Some (head_of item, words_bytes item.close)) × (words_in (words_bytes item.close) ≡ Some item.close)
+record_read item bytes is same = (ap head_at same ∙ head_again (head_of item) (words_bytes item.close) (head_fits item is), words_again item.close (small_words item.close is.close))
+
+proto-same : (a b : Proto) → proto_number a ≡ proto_number b → a ≡ b
+proto-same Tcp Tcp same = refl
+proto-same Tcp Udp same = absurd (omega arith)
+proto-same Udp Tcp same = absurd (omega arith)
+proto-same Udp Udp same = refl
+
+abbrev record_with : ℕ → Digest → ℕ → ℕ → Ip4 → Pair → List (List ℕ) → OpenRecord
+record_with id digest moment due ip pair close = record { id = id; digest = digest; moment = moment; due = due; ip = ip; pair = pair; close = close }
+
+-- a record is its values
+record-same : (a b : OpenRecord) → head_of a ≡ head_of b → a.close ≡ b.close → a ≡ b
+record-same a b heads closes =
+    let ids : a.id ≡ b.id = ap (λ (h : Head). h.id) heads in
+    let digests : a.digest.0 ≡ b.digest.0 = ap (λ (h : Head). h.digest) heads in
+    let moments : a.moment ≡ b.moment = ap (λ (h : Head). h.moment) heads in
+    let dues : a.due ≡ b.due = ap (λ (h : Head). h.due) heads in
+    let ips : a.ip.0 ≡ b.ip.0 = ap (λ (h : Head). h.ip) heads in
+    let pairs : a.pair ≡ b.pair = Pair-same a.pair b.pair (proto-same a.pair.proto b.pair.proto (ap (λ (h : Head). h.proto) heads)) (ap (λ (h : Head). h.port) heads) in
+    ap (λ (x : ℕ). record_with x a.digest a.moment a.due a.ip a.pair a.close) ids
+    ∙ ap (λ (x : List ℕ). record_with b.id (record { 0 = x }) a.moment a.due a.ip a.pair a.close) digests
+    ∙ ap (λ (x : ℕ). record_with b.id b.digest x a.due a.ip a.pair a.close) moments
+    ∙ ap (λ (x : ℕ). record_with b.id b.digest b.moment x a.ip a.pair a.close) dues
+    ∙ ap (λ (x : ℕ). record_with b.id b.digest b.moment b.due (record { 0 = x }) a.pair a.close) ips
+    ∙ ap (λ (x : Pair). record_with b.id b.digest b.moment b.due b.ip x a.close) pairs
+    ∙ ap (λ (x : List (List ℕ)). record_with b.id b.digest b.moment b.due b.ip b.pair x) closes
+
+abbrev payload : Content → List ℕ
+payload content = content.payload
+
+pub content-injective : (a b : Change) → IsChange a → IsChange b → content_of a ≡ content_of b → a ≡ b
+content-injective (Open a) (Open b) is_a is_b same =
+    let bytes : record_bytes a ≡ record_bytes b = ap payload same in
+    let read_a = record_read a (record_bytes a) is_a refl in
+    let read_b = record_read b (record_bytes a) is_b bytes in
+    let heads : (head_of a, words_bytes a.close) ≡ (head_of b, words_bytes b.close) = some_is (head_of a, words_bytes a.close) (head_of b, words_bytes b.close) (sym read_a.0 ∙ read_b.0) in
+    let words : words_bytes a.close ≡ words_bytes b.close = ap (λ (p : Head × List ℕ). p.1) heads in
+    let closes : a.close ≡ b.close = some_is a.close b.close (sym read_a.1 ∙ ap words_in words ∙ read_b.1) in
+    ap Open (record-same a b (ap (λ (p : Head × List ℕ). p.0) heads) closes)
+content-injective (Open a) (Done b) is_a is_b same = absurd (let kinds = ap (λ (c : Content). c.kind) same in omega arith)
+content-injective (Done a) (Open b) is_a is_b same = absurd (let kinds = ap (λ (c : Content). c.kind) same in omega arith)
+content-injective (Done a) (Done b) is_a is_b same =
+    let bytes : to_be_bytes w64 a ≡ to_be_bytes w64 b = ap payload same in
+    ap Done (sym (wide64.again a is_a) ∙ ap (from_be_bytes w64) bytes ∙ wide64.again b is_b)
+
+cons_is : (x y : Content) (xs ys : List Content) → x ∷ xs ≡ y ∷ ys → (x ≡ y) × (xs ≡ ys)
+cons_is x y xs ys e = (cc, cc)
+
+pub contents-injective : (a b : List Change) → AllByRecursion IsChange a → AllByRecursion IsChange b → ledger_contents a ≡ ledger_contents b → a ≡ b
+contents-injective [] [] all_a all_b same = refl
+contents-injective [] (y ∷ ys) all_a all_b same = absurd cc
+contents-injective (x ∷ xs) [] all_a all_b same = absurd cc
+contents-injective (x ∷ xs) (y ∷ ys) all_a all_b same =
+    let parts = cons_is (content_of x) (content_of y) (ledger_contents xs) (ledger_contents ys) same in
+    ap (λ (z : Change). z ∷ xs) (content-injective x y all_a.0 all_b.0 parts.0) ∙ ap (λ (zs : List Change). y ∷ zs) (contents-injective xs ys all_a.1 all_b.1 parts.1)
+
+-- what stands behind the first changes of a ledger may stand there
+pub next_follows : (start ledger before : List Change) (content : Content) (later : List Content) → AllByRecursion IsChange ledger → AllByRecursion IsChange before → IsLedgerFrom start ledger
+    → ledger_contents ledger ≡ ledger_contents before ++ content ∷ later → (change : Change) × IsChange change × (content ≡ content_of change) × MayFollow (start ++ before) change
+next_follows start [] [] content later all_l all_b follow same = absurd cc
+next_follows start (x ∷ xs) [] content later all_l all_b follow same =
+    let parts = cons_is (content_of x) content (ledger_contents xs) later same in
+    (x, all_l.0, sym parts.0, subst (λ (ledger : List Change). MayFollow ledger x) (sym (append-nil start)) follow.0)
+next_follows start [] (b ∷ bs) content later all_l all_b follow same = absurd cc
+next_follows start (x ∷ xs) (b ∷ bs) content later all_l all_b follow same =
+    let parts = cons_is (content_of x) (content_of b) (ledger_contents xs) (ledger_contents bs ++ content ∷ later) same in
+    let first : x ≡ b = content-injective x b all_l.0 all_b.0 parts.0 in
+    let r = next_follows (start ++ x ∷ []) xs bs content later all_l.1 all_b.1 follow.1 parts.1 in
+    (r.0, r.1, r.2, subst (λ (ledger : List Change). MayFollow ledger r.0) (append_assoc start (x ∷ []) bs ∙ ap (λ (z : Change). start ++ z ∷ bs) first) r.3)
+
+-- one first break
+pub one_break : (start a b : List Change) (c d : Content) (more others : List Content) → AllByRecursion IsChange a → AllByRecursion IsChange b → IsLedgerFrom start a → IsLedgerFrom start b
+    → IsBroken (start ++ a) c → IsBroken (start ++ b) d → ledger_contents a ++ c ∷ more ≡ ledger_contents b ++ d ∷ others → a ≡ b
+one_break start [] [] c d more others all_a all_b follow_a follow_b broken_a broken_b same = refl
+one_break start [] (y ∷ ys) c d more others all_a all_b follow_a follow_b broken_a broken_b same =
+    let parts = cons_is c (content_of y) more (ledger_contents ys ++ d ∷ others) same in
+    absurd (broken_a y all_b.0 parts.0 (subst (λ (ledger : List Change). MayFollow ledger y) (sym (append-nil start)) follow_b.0))
+one_break start (x ∷ xs) [] c d more others all_a all_b follow_a follow_b broken_a broken_b same =
+    let parts = cons_is (content_of x) d (ledger_contents xs ++ c ∷ more) others same in
+    absurd (broken_b x all_a.0 (sym parts.0) (subst (λ (ledger : List Change). MayFollow ledger x) (sym (append-nil start)) follow_a.0))
+one_break start (x ∷ xs) (y ∷ ys) c d more others all_a all_b follow_a follow_b broken_a broken_b same =
+    let parts = cons_is (content_of x) (content_of y) (ledger_contents xs ++ c ∷ more) (ledger_contents ys ++ d ∷ others) same in
+    let first : x ≡ y = content-injective x y all_a.0 all_b.0 parts.0 in
+    let left : IsBroken ((start ++ x ∷ []) ++ xs) c = subst (λ (ledger : List Change). IsBroken ledger c) (sym (append_assoc start (x ∷ []) xs)) broken_a in
+    let right : IsBroken ((start ++ x ∷ []) ++ ys) d = subst (λ (ledger : List Change). IsBroken ledger d) (ap (λ (z : Change). start ++ z ∷ ys) (sym first) ∙ sym (append_assoc start (x ∷ []) ys)) broken_b in
+    let follow : IsLedgerFrom (start ++ x ∷ []) ys = subst (λ (z : Change). IsLedgerFrom (start ++ z ∷ []) ys) (sym first) follow_b.1 in
+    ap (λ (z : Change). z ∷ xs) first ∙ ap (λ (zs : List Change). y ∷ zs) (one_break (start ++ x ∷ []) xs ys c d more others all_a.1 all_b.1 follow_a.1 follow left right parts.1)
+
+pub one_ledger : (image : Areas) (a b : List Change) → HoldsLedger image a → HoldsLedger image b → a ≡ b
+one_ledger image a b x y = contents-injective a b x.each y.each (one_list (selected image) (ledger_contents a) (ledger_contents b) x.entries y.entries)
+
+pub held_undamaged : (image : Areas) (ledger : List Change) (place : ℕ) → HoldsLedger image ledger → IsLedgerDamagedAt image place → ⊥
+held_undamaged image ledger place held (inl damaged) = not_both (selected image) (ledger_contents ledger) place held.entries damaged
+held_undamaged image ledger place held (inr breaks) =
+    let same = one_list (selected image) (ledger_contents ledger) (ledger_contents breaks.before ++ breaks.content ∷ breaks.later) held.entries breaks.entries in
+    let r = next_follows [] ledger breaks.before breaks.content breaks.later held.each breaks.each held.follow same in
+    breaks.broken r.0 r.1 r.2 r.3
+
+pub one_damage : (image : Areas) (a b : ℕ) → IsLedgerDamagedAt image a → IsLedgerDamagedAt image b → a ≡ b
+one_damage image a b (inl x) (inl y) = one_place (selected image) a b x y
+one_damage image a b (inl x) (inr y) = absurd (not_both (selected image) (ledger_contents y.before ++ y.content ∷ y.later) a y.entries x)
+one_damage image a b (inr x) (inl y) = absurd (not_both (selected image) (ledger_contents x.before ++ x.content ∷ x.later) b x.entries y)
+one_damage image a b (inr x) (inr y) =
+    let same = one_list (selected image) (ledger_contents x.before ++ x.content ∷ x.later) (ledger_contents y.before ++ y.content ∷ y.later) x.entries y.entries in
+    x.placed ∙ ap (λ (ledger : List Change). place_behind (ledger_contents ledger)) (one_break [] x.before y.before x.content y.content x.later y.later x.each y.each x.follow y.follow x.broken y.broken same) ∙ sym y.placed

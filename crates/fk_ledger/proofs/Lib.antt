@@ -1,0 +1,10 @@
+mod ChangeLists
+mod Texts
+mod WordLists
+mod PayloadLaws
+mod RecordReads
+mod EntryLists
+mod RoomLaws
+mod OpeningLaws
+pub mod LedgerLaws
+pub mod StretchLaws

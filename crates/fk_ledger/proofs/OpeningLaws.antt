@@ -1,0 +1,76 @@
+-- The moments of an opening, and what is damaged.
+use Rattle.std.proofs.Common.{◌≡◌, ℕ, Bool, true, false, List, [], ◌++◌, sym, ap, subst, inl, inr, append-nil, Option, Some, None, Err}
+use Rattle.std.specs.Prelude.{Result}
+use Rattle.fk_trace.specs.declared.change.Change.{Change}
+use Rattle.fk_host.specs.Disk.{Areas, Told, IfTold}
+use Rattle.fk_journal.specs.declared.fault.JournalErr.{JournalErr}
+use Rattle.fk_journal.specs.Entries.{Content, IsClosedBehind, HoldsEntries, IsDamagedAt}
+use Rattle.fk_journal.specs.Keeps.{Log, Keeps, selected, IsOpening}
+use Rattle.fk_journal.proofs.Told.{if_told_map}
+use Rattle.fk_journal.proofs.Uniqueness.{one_list, same_held}
+use Rattle.fk_ledger.specs.Payloads.{ledger_contents}
+use Rattle.fk_ledger.specs.Holds.{HoldsLedger, HoldsState, IsLedgerDamagedAt}
+use Rattle.fk_ledger.specs.Stretch.{IsLedgerOpening}
+use Rattle.fk_ledger.specs.Private.{BreakAt}
+use Rattle.fk_ledger.proofs.StretchLaws.{held_state}
+
+-- a ledger, as a stretch without changes tells it
+still_held : (ledger : List Change) (image : Areas) → HoldsLedger image ledger → HoldsState (ledger ++ []) image
+still_held ledger image held = subst (λ (ledger : List Change). HoldsState ledger image) (sym (append-nil ledger)) (held_state ledger image held)
+
+opening : (ledger : List Change) (whole : Bool) (old new : ℕ → Areas → Type 0) (x y : Told) → IsOpening old new x y → HoldsLedger x.areas ledger
+    → (whole ≡ true → (image : Areas) → new y.moments image → HoldsLedger image ledger) → IsLedgerOpening ledger whole old new x y
+opening ledger whole old new x y opens held all = record {
+  past = opens.past;
+  unsynced = opens.unsynced;
+  since = opens.since;
+  first = opens.first;
+  then = record {
+    later = opens.within;
+    past = λ k image within. (λ h. h, λ h. h);
+    each = λ k image behind upto left. (
+      0,
+      still_held ledger image (record {
+        entries = same_held (selected x.areas) (selected image) (ledger_contents ledger) (opens.then k image behind upto left) held.entries;
+        each = held.each;
+        follow = held.follow;
+      }),
+    );
+    all = λ is image left. still_held ledger image (all is image left);
+  };
+}
+
+pub failed_opening : (ledger : List Change) (s t : Option Told) (old new : ℕ → Areas → Type 0) → IfTold s t (IsOpening old new) → IfTold s t (λ x y. HoldsLedger x.areas ledger → IsLedgerOpening ledger false old new x y)
+failed_opening ledger s t old new opens =
+    if_told_map s t (IsOpening old new) (λ x y. HoldsLedger x.areas ledger → IsLedgerOpening ledger false old new x y)
+    (λ x y o held. opening ledger false old new x y o held (λ no. absurd (let n : false ≡ true = no in cc))) opens
+
+pub whole_opening : (ledger : List Change) (contents : List Content) (log : Log) (s t : Option Told) (old new : ℕ → Areas → Type 0) → IfTold s t (IsOpening old new) → IfTold s t (λ x y. HoldsEntries (selected x.areas) contents)
+    → Keeps log contents t new → IfTold s t (λ x y. HoldsLedger x.areas ledger → IsLedgerOpening ledger true old new x y)
+whole_opening ledger contents log s None old new opens entries keeps = tt
+whole_opening ledger contents log None (Some y) old new opens entries keeps = absurd opens
+whole_opening ledger contents log (Some x) (Some y) old new opens entries keeps = λ held.
+    opening ledger true old new x y opens held (λ is image left.
+    let same : contents ≡ ledger_contents ledger = one_list (selected x.areas) contents (ledger_contents ledger) entries held.entries in
+    let closed : IsClosedBehind contents (selected image) = subst (IsClosedBehind contents) (sym (keeps.held.1 image left).1) keeps.held.0 in
+    record { entries = subst (HoldsEntries (selected image)) same (inr closed); each = held.each; follow = held.follow })
+
+-- ---- damage
+
+abbrev error_of : (T : Type 0) → JournalErr → Result T JournalErr
+error_of T e = Err e
+
+bare : (T : Type 0) (d e : JournalErr) → error_of T d ≡ error_of T e → d ≡ e
+bare T d e same = cc
+
+-- an error is the same beside a value of any type
+pub same_error : (T U : Type 0) (d e : JournalErr) → error_of T d ≡ error_of T e → error_of U d ≡ error_of U e
+same_error T U d e same = ap (error_of U) (bare T d e same)
+
+pub area_damaged : (place : ℕ) (s t : Option Told) → IfTold s t (λ x y. IsDamagedAt (selected x.areas) place) → IfTold s t (λ x y. IsLedgerDamagedAt x.areas place)
+area_damaged place s t damaged = if_told_map s t (λ x y. IsDamagedAt (selected x.areas) place) (λ x y. IsLedgerDamagedAt x.areas place) (λ x y d. inl d) damaged
+
+pub entry_damaged : (contents : List Content) (place : ℕ) (s t : Option Told) → BreakAt contents place → IfTold s t (λ x y. HoldsEntries (selected x.areas) contents) → IfTold s t (λ x y. IsLedgerDamagedAt x.areas place)
+entry_damaged contents place s t breaks entries =
+    if_told_map s t (λ x y. HoldsEntries (selected x.areas) contents) (λ x y. IsLedgerDamagedAt x.areas place)
+    (λ x y e. inr (record { before = breaks.before; content = breaks.content; later = breaks.later; entries = subst (HoldsEntries (selected x.areas)) breaks.parts e; each = breaks.each; follow = breaks.follow; broken = breaks.broken; placed = breaks.placed })) entries

@@ -1,0 +1,63 @@
+use Rattle.std.proofs.Common.{◌≡◌, ◌+◌, ◌≤◌, length, List, ap, sym, subst, ◌∙◌, arith, vec_capacity}
+use Rattle.std.proofs.lemmas.Result.{err_from_is_err_and}
+use Rattle.fk_journal.specs.Entries.{contents_of, place_behind, HoldsEntries}
+use Rattle.fk_journal.specs.Keeps.{selected}
+use Rattle.fk_host.specs.Disk.{IfTold}
+use Rattle.fk_ledger.specs.Book.{live_ids}
+use Rattle.fk_ledger.proofs.RoomLaws.{order_found}
+use Rattle.fk_journal.specs.declared.entry.Entry.{Entry}
+use Rattle.fk_ledger.proofs.OpeningLaws.{failed_opening, whole_opening, same_error, area_damaged, entry_damaged}
+use Rattle.fk_ledger.proofs.ledger.Ledger.open.Goals as goal
+
+pub returns-in_err-journal-clause-damaged : goal.returns-in_err-journal-clause-damaged
+returns-in_err-journal-clause-damaged g c =
+    let p = err_from_is_err_and c.from_residual.result c.from_residual.ensures.1 in
+    rw (p.1, p.2) (λ place is. area_damaged place (g.D.Disk.told c.args.disk.now) (g.D.Disk.told c.open.new.disk) (c.in_err-journal.ensures.damaged place (same_error _ _ _ _ is)))
+
+pub returns-in_err-journal-clause-moments : goal.returns-in_err-journal-clause-moments
+returns-in_err-journal-clause-moments g c =
+    let p = err_from_is_err_and c.from_residual.result c.from_residual.ensures.1 in
+    rw p.1 (λ ledger. failed_opening ledger (g.D.Disk.told c.args.disk.now) (g.D.Disk.told c.open.new.disk) (g.D.Disk.may_leave c.args.disk.now) (g.D.Disk.may_leave c.open.new.disk) c.in_err-journal.ensures.moments)
+
+pub returns-in_err-changes-clause-damaged : goal.returns-in_err-changes-clause-damaged
+returns-in_err-changes-clause-damaged g c =
+    let p = err_from_is_err_and c.from_residual-in_err-changes.result c.from_residual-in_err-changes.ensures.1 in
+    rw (p.1, p.2) (λ place is.
+    entry_damaged (contents_of c.deref.result.now) place (g.D.Disk.told c.args.disk.now) (g.D.Disk.told c.open.new.disk) (c.in_err-changes.ensures.damaged place (same_error _ _ _ _ is))
+    (subst (λ (es : List Entry). IfTold (g.D.Disk.told c.args.disk.now) (g.D.Disk.told c.open.new.disk) (λ x y. HoldsEntries (selected x.areas) (contents_of es))) (sym c.deref.ensures.value) c.in_ok-journal.ensures.held))
+
+pub returns-in_err-changes-clause-moments : goal.returns-in_err-changes-clause-moments
+returns-in_err-changes-clause-moments g c =
+    let p = err_from_is_err_and c.from_residual-in_err-changes.result c.from_residual-in_err-changes.ensures.1 in
+    rw p.1 (λ ledger. failed_opening ledger (g.D.Disk.told c.args.disk.now) (g.D.Disk.told c.open.new.disk) (g.D.Disk.may_leave c.args.disk.now) (g.D.Disk.may_leave c.open.new.disk) c.in_ok-journal.ensures.moments)
+
+pub returns-in_err-ids-clause-moments : goal.returns-in_err-ids-clause-moments
+returns-in_err-ids-clause-moments g c =
+    let p = err_from_is_err_and c.from_residual-in_err-ids.result c.from_residual-in_err-ids.ensures.1 in
+    rw p.1 (λ ledger. failed_opening ledger (g.D.Disk.told c.args.disk.now) (g.D.Disk.told c.open.new.disk) (g.D.Disk.may_leave c.args.disk.now) (g.D.Disk.may_leave c.open.new.disk) c.in_ok-journal.ensures.moments)
+
+pub returns-in_err-reserve-clause-moments : goal.returns-in_err-reserve-clause-moments
+returns-in_err-reserve-clause-moments g c =
+    let p = err_from_is_err_and c.from_residual-in_err-reserve.result c.from_residual-in_err-reserve.ensures.1 in
+    rw p.1 (λ ledger. failed_opening ledger (g.D.Disk.told c.args.disk.now) (g.D.Disk.told c.open.new.disk) (g.D.Disk.may_leave c.args.disk.now) (g.D.Disk.may_leave c.open.new.disk) c.in_ok-journal.ensures.moments)
+
+pub returns-in_err-owed-clause-moments : goal.returns-in_err-owed-clause-moments
+returns-in_err-owed-clause-moments g c =
+    let p = err_from_is_err_and c.from_residual-in_err-owed.result c.from_residual-in_err-owed.ensures.1 in
+    rw p.1 (λ ledger. failed_opening ledger (g.D.Disk.told c.args.disk.now) (g.D.Disk.told c.open.new.disk) (g.D.Disk.may_leave c.args.disk.now) (g.D.Disk.may_leave c.open.new.disk) c.in_ok-journal.ensures.moments)
+
+pub invariant_of-ledger : goal.invariant_of-ledger
+invariant_of-ledger g c =
+    let sizes = c.in_ok-reserve.ensures.ok in
+    let more = c.len.ensures in
+    let fits : length c.in_ok-changes.changes.items + length c.in_ok-ids.ids.items ≤ vec_capacity c.reserve.new.self = omega arith in
+    let again = c.len-2.ensures in
+    let lives : c.len-2.result ≡ length c.in_ok-ids.ids.items = omega arith in
+    order_found c.in_ok-journal.journal c.reserve.new.self c.args.live c.len-2.result c.new.result c.in_ok-changes.changes.items c.in_ok-ids.ids.items (contents_of c.deref.result.now) c.in_ok-changes.ensures.held
+    (c.in_ok-journal.ensures.keeps.behind ∙ ap (λ (es : List Entry). place_behind (contents_of es)) (sym c.deref.ensures.value)) c.in_ok-journal.ensures.fresh.2 c.in_ok-reserve.ensures.items
+    (c.in_ok-ids.ensures ∙ ap live_ids c.deref-2.ensures.value) lives fits
+
+pub returns-clause-moments : goal.returns-clause-moments
+returns-clause-moments g c = λ ledger.
+    whole_opening ledger (contents_of c.in_ok-journal.entries.items) c.in_ok-journal.journal (g.D.Disk.told c.args.disk.now) (g.D.Disk.told c.open.new.disk) (g.D.Disk.may_leave c.args.disk.now) (g.D.Disk.may_leave c.open.new.disk)
+    c.in_ok-journal.ensures.moments c.in_ok-journal.ensures.held c.in_ok-journal.ensures.keeps

@@ -1,0 +1,40 @@
+-- A ledger that is served, as contracts see it, and its room.
+use Rattle.std.specs.Prelude.{ℕ, ◌+◌, ◌*◌, ◌&&◌, nat_lt, nat_le, Bool, true, false, List, length, map}
+use Rattle.std.specs.List.{sum_by}
+use Rattle.fk_trace.specs.declared.change.OpenRecord.{OpenRecord}
+use Rattle.fk_trace.specs.declared.change.Change.{Change}
+use Rattle.fk_trace.specs.Ledger.{live}
+use Rattle.fk_ledger.specs.declared.fault.RecordFault.{RecordFault}
+use Rattle.fk_ledger.specs.declared.fault.RecordFault.TheVariants.{Full, Disk}
+use Rattle.fk_ledger.specs.Payloads.{content_of, record_bytes}
+
+pub record Book : Type 0 where
+  -- all changes, those that were found and those that were made
+  pub changes : List Change
+  -- how many records may be live at once
+  pub limit : ℕ
+  -- how many bytes the journal may use
+  pub room : ℕ
+  -- how long the entry's payload of a record may be that is recorded without memory
+  pub reserved : ℕ
+  -- a call failed, and the ledger has to be opened again
+  pub is_spent : Bool
+
+-- how many bytes a ledger uses: the format byte, the closing gate, and for each change the six bytes round its payload and that
+abbrev pub used : List Change → ℕ
+used ledger = 2 + sum_by (λ change. 6 + length (content_of change).payload) ledger
+
+-- A record still fits: fewer than `limit` are live, and behind its entry the bytes of `room` are enough for the Done of each
+-- live record and of this one, 14 bytes each.
+abbrev pub has_room : ℕ → ℕ → List Change → OpenRecord → Bool
+has_room room limit ledger item =
+    nat_lt (length (live ledger)) limit && nat_le (used ledger + (6 + length (record_bytes item)) + 14 * (length (live ledger) + 1)) room
+
+-- the numbers of the live records, rising
+abbrev pub live_ids : List Change → List ℕ
+live_ids ledger = map (λ item. item.id) (live ledger)
+
+-- an error that a fault of the disk brings
+abbrev pub is_disk_record_fault : RecordFault → Bool
+is_disk_record_fault Full = false
+is_disk_record_fault Disk = true

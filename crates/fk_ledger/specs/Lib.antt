@@ -1,0 +1,6 @@
+pub mod Payloads
+pub mod Holds
+pub mod Stretch
+pub mod Book
+pub mod Private
+pub mod Reading

@@ -1,0 +1,74 @@
+-- What the contracts of this crate's private functions alone speak of. No public contract cites it, so no caller has to believe it.
+use Rattle.std.specs.Prelude.{◌≡◌, ◌≢◌, [], ℕ, ◌==◌, nat_eq, Bool, true, false, ◌+◌, ◌≤◌, nat_le, min, not, map, List, ◌∷◌, ◌++◌, length, if◌then◌else◌, vec_capacity}
+use Rattle.std.specs.List.{AllByRecursion, AllPass, filter, list_any}
+use Rattle.fk_base.specs.Characters.{is_word_byte}
+use Rattle.fk_trace.specs.declared.change.OpenRecord.{OpenRecord}
+use Rattle.fk_trace.specs.declared.change.Change.{Change}
+use Rattle.fk_trace.specs.declared.change.Change.TheVariants.{Open, Done}
+use Rattle.std.specs.Cmp.Lexicographic.{pointwise}
+use Rattle.fk_trace.specs.Ledger.{live, IsLedger}
+use Rattle.fk_journal.specs.Entries.{Content, place_behind}
+use Rattle.fk_ledger.specs.declared.ledger.Ledger.TheInside.{Inside}
+use Rattle.fk_ledger.specs.Book.{Book, used}
+use Rattle.fk_ledger.specs.Payloads.{ledger_contents, IsChange}
+use Rattle.fk_ledger.specs.Holds.{IsBroken}
+
+-- A further record needs room for itself and for its Done, beside that for the Done of each live record.
+abbrev pub book_of : Inside → Book
+book_of ledger = record {
+  changes = ledger.changes.items;
+  limit = ledger.limit;
+  room = ledger.journal.limit;
+  reserved = if nat_le (length ledger.changes.items + ledger.live + 2) (vec_capacity ledger.changes) then min (vec_capacity ledger.payload) ledger.journal.reserved else 0;
+  is_spent = ledger.journal.is_spent;
+}
+
+-- the journal and the count are those of the changes, and there is room for the Done of each live record
+pub record IsInOrder (ledger : Inside) : Type 0 where
+  pub live : ledger.live ≡ length (live ledger.changes.items)
+  pub used : used ledger.changes.items ≡ ledger.journal.end + 1
+  pub room : length ledger.changes.items + ledger.live ≤ vec_capacity ledger.changes
+  pub reserved : 8 ≤ ledger.journal.reserved
+
+-- the entries are those of a ledger
+pub record AreLedger (contents : List Content) (ledger : List Change) : Type 0 where
+  pub entries : contents ≡ ledger_contents ledger
+  pub each : AllByRecursion IsChange ledger
+  pub follow : IsLedger ledger
+
+-- the first of these entries that is broken behind those before it has its gate at this place
+pub record BreakAt (contents : List Content) (place : ℕ) : Type 0 where
+  pub before : List Change
+  pub content : Content
+  pub later : List Content
+  pub parts : contents ≡ ledger_contents before ++ content ∷ later
+  pub each : AllByRecursion IsChange before
+  pub follow : IsLedger before
+  pub broken : IsBroken before content
+  pub placed : place ≡ place_behind (ledger_contents before)
+
+-- one of the words of a command
+pub record IsCommandWord (word : List ℕ) : Type 0 where
+  pub filled : word ≢ []
+  pub bytes : AllPass is_word_byte word
+
+-- what one change has to do with a digest or a number
+abbrev pub has_digest : List ℕ → Change → Bool
+has_digest digest (Open item) = pointwise nat_eq item.digest.0 digest
+has_digest digest (Done id) = false
+
+abbrev pub is_open : Change → Bool
+is_open (Open item) = true
+is_open (Done id) = false
+
+abbrev pub opens_id : ℕ → Change → Bool
+opens_id id (Open item) = item.id == id
+opens_id id (Done done) = false
+
+abbrev pub settles_id : ℕ → Change → Bool
+settles_id id (Open item) = false
+settles_id id (Done done) = done == id
+
+-- the numbers of those of these records that no change of the ledger settles
+abbrev pub ids_of : List Change → List OpenRecord → List ℕ
+ids_of ledger items = map (λ item. item.id) (filter (λ item. not (list_any (settles_id item.id) ledger)) items)

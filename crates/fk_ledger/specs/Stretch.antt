@@ -1,0 +1,25 @@
+-- What a crash at each moment of some calls may leave: a ledger with the first of their changes.
+use Rattle.std.specs.Prelude.{◌≡◌, ℕ, ◌<◌, ◌≤◌, Bool, true, List, [], take}
+use Rattle.fk_trace.specs.declared.change.Change.{Change}
+use Rattle.fk_trace.specs.Ledger.{after}
+use Rattle.fk_host.specs.Disk.{Areas, Told, KeepsPast}
+use Rattle.fk_ledger.specs.Holds.{HoldsState}
+
+-- A stretch over a ledger with these changes, from one state of the host to a later one. What a crash at an earlier moment may
+-- leave is as before. At each new moment each image holds the State of the ledger after some front of the changes, and where the
+-- stretch is whole each image of the last moment holds it after all of them.
+pub record Stretch (ledger changes : List Change) (whole : Bool) (old new : ℕ → Areas → Type 0) (start finish : Told) : Type 0 where
+  pub later : start.moments ≤ finish.moments
+  pub past : KeepsPast start.moments old new
+  pub each : (k : ℕ) (image : Areas) → start.moments < k → k ≤ finish.moments → new k image
+      → (n : ℕ) × HoldsState (after ledger (take n changes)) image
+  pub all : whole ≡ true → (image : Areas) → new finish.moments image → HoldsState (after ledger changes) image
+
+-- The moments of the opening of a ledger. Up to the one before the area's sync has ended well (the last of them all, where it
+-- never does), each image is one that stood at entry; from then on the calls are a stretch without changes.
+pub record IsLedgerOpening (ledger : List Change) (whole : Bool) (old new : ℕ → Areas → Type 0) (start finish : Told) : Type 0 where
+  pub past : KeepsPast start.moments old new
+  pub unsynced : ℕ
+  pub since : start.moments ≤ unsynced
+  pub first : (k : ℕ) (image : Areas) → start.moments < k → k ≤ unsynced → new k image → old start.moments image
+  pub then : Stretch ledger [] whole new new (record start { moments = unsynced }) finish

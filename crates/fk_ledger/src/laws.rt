@@ -1,0 +1,42 @@
+//! What follows from the definitions alone. Each function is a law, and does nothing.
+ghost use Rattle.std.specs.Prelude.{◌≡◌, ℕ, ◌≤◌, Bool, true, false, List, []};
+ghost use Rattle.fk_host.specs.Disk.{Areas, IfTold, LeavesAreas};
+ghost use Rattle.fk_trace.specs.declared.change.Change.{Change};
+ghost use Rattle.fk_trace.specs.Ledger.{after};
+ghost use Rattle.fk_ledger.specs.Holds.{HoldsLedger, IsLedgerDamagedAt, KeepsLedger};
+ghost use Rattle.fk_ledger.specs.Stretch.{Stretch};
+
+use fk_host::Disk;
+
+/// The areas hold one ledger at most, or they are damaged, at one place, and hold none.
+pub fn no_area_holds_two_ledgers()
+    ensures ledgers { (image : Areas) (a b : List Change) → HoldsLedger image a → HoldsLedger image b → a ≡ b }
+    ensures damaged { (image : Areas) (ledger : List Change) (place : ℕ) → HoldsLedger image ledger → IsLedgerDamagedAt image place → ⊥ }
+    ensures places { (image : Areas) (a b : ℕ) → IsLedgerDamagedAt image a → IsLedgerDamagedAt image b → a ≡ b }
+{}
+
+/// Calls that leave the areas are a whole stretch without changes over a ledger that the disk keeps, and it keeps that ledger.
+pub fn calls_that_leave_the_areas_are_a_stretch<D: Disk>(old: &D, new: &D)
+    ensures stretch { (ledger : List Change) → KeepsLedger ledger (D.told old.now) (D.may_leave old.now)
+        → IfTold (D.told old.now) (D.told new.now) (LeavesAreas (D.may_leave old.now) (D.may_leave new.now))
+        → IfTold (D.told old.now) (D.told new.now) (Stretch ledger [] true (D.may_leave old.now) (D.may_leave new.now)) }
+    ensures keeps { (ledger : List Change) → KeepsLedger ledger (D.told old.now) (D.may_leave old.now)
+        → IfTold (D.told old.now) (D.told new.now) (LeavesAreas (D.may_leave old.now) (D.may_leave new.now))
+        → KeepsLedger ledger (D.told new.now) (D.may_leave new.now) }
+{}
+
+/// Two stretches that adjoin, of which the first is whole, are one with the changes of both.
+pub fn adjoining_stretches_are_one<D: Disk>(first: &D, second: &D, third: &D)
+    ensures { (ledger a b : List Change) (whole : Bool)
+        → IfTold (D.told first.now) (D.told second.now) (Stretch ledger a true (D.may_leave first.now) (D.may_leave second.now))
+        → IfTold (D.told second.now) (D.told third.now) (Stretch (after ledger a) b whole (D.may_leave second.now) (D.may_leave third.now))
+        → IfTold (D.told first.now) (D.told third.now) (Stretch ledger (after a b) whole (D.may_leave first.now) (D.may_leave third.now)) }
+{}
+
+/// What stood up to any moment of a stretch is a stretch.
+pub fn a_stretch_may_be_cut<D: Disk>(old: &D, new: &D)
+    ensures { (ledger changes : List Change) (whole : Bool) (k : ℕ)
+        → IfTold (D.told old.now) (D.told new.now) (Stretch ledger changes whole (D.may_leave old.now) (D.may_leave new.now))
+        → IfTold (D.told old.now) (D.told new.now) (λ before later. before.moments ≤ k → k ≤ later.moments
+        → Stretch ledger changes false (D.may_leave old.now) (D.may_leave new.now) before (record later { moments = k })) }
+{}

@@ -1,0 +1,244 @@
+ghost use Rattle.std.specs.Prelude.{◌≡◌, ◌↔◌, ℕ, ◌+◌, ◌==◌, ◌<◌, ◌≤◌, List, [], ◌∷◌, true, false, is_ok, length, IfErr, IfOk, IsErrOf, OnErr, OnOk};
+ghost use Rattle.std.specs.List.{find, Contains};
+ghost use Rattle.std.specs.List.Sorted.{IsPermutation};
+ghost use Rattle.std.specs.Option.{option_copied};
+ghost use Rattle.fk_base.specs.CommandWords.{AreCommandWords};
+ghost use Rattle.fk_host.specs.Count.{HasCauseBy};
+ghost use Rattle.fk_host.specs.Disk.{IfTold, LeavesAreas, LeavesHost};
+ghost use Rattle.fk_trace.specs.declared.change.Change.{Change};
+ghost use Rattle.fk_trace.specs.declared.change.Change.TheVariants.{Open, Done};
+ghost use Rattle.fk_trace.specs.Ledger.{after, live, is_seen, next_id, MayFollow};
+ghost use Rattle.fk_journal.specs.Entries.{area_bytes};
+ghost use Rattle.fk_journal.specs.Keeps.{selected, IsOpening, LeavesOthers, is_disk_fault};
+ghost use Rattle.fk_ledger.specs.Book.{has_room, live_ids, is_disk_record_fault};
+ghost use Rattle.fk_ledger.specs.Holds.{HoldsLedger, IsLedgerDamagedAt, KeepsLedger};
+ghost use Rattle.fk_ledger.specs.Payloads.{record_bytes};
+ghost use Rattle.fk_ledger.specs.Stretch.{Stretch, IsLedgerOpening};
+
+use crate::changes::{changes_of, is_seen, live_ids, live_record, next_id, owed_of, spend_all};
+use crate::writing::{record_len, write_record};
+use crate::{LedgerErr, Owed, RecordFault};
+use fk_base::{Digest, Failed, NoMemory};
+use fk_cycle::CloseEnd;
+use fk_host::Disk;
+use fk_journal::Journal;
+use fk_trace::{Change, OpenRecord};
+use std::alloc::Global;
+use std::marker::Model;
+
+/// A ledger on a journal of the disk, which nobody else writes.
+#[derive(Drop)]
+pub struct Ledger {
+    journal: Journal,
+    // with room for a Done of each live record
+    changes: Vec<Change>,
+    live: usize,
+    limit: u32,
+    // the payload of a record as it is written: cleared before each
+    payload: Vec<u8>,
+}
+
+impl Model for Ledger {
+    ghost use Rattle.std.specs.Prelude.{vec_capacity};
+    ghost use Rattle.fk_ledger.specs.Book.{Book};
+
+    ghost Value = { Book };
+
+    ghost use Rattle.fk_ledger.specs.Private.{book_of, IsInOrder};
+
+    ghost view = { book_of };
+
+    ghost invariant = { IsInOrder };
+}
+
+impl Ledger {
+    /// Syncs the journal's area and reads the ledger that it holds, and hands out one `Owed` for each live record, by rising
+    /// number. The journal may use `room` bytes, and `live` records may be live at once.
+    pub fn open<D: Disk>(
+        alloc: Global,
+        disk: &mut D,
+        room: u64,
+        live: u32,
+    ) -> Result<(Self, Vec<Owed>), LedgerErr>
+        ensures held { IfOk result (λ r. IfTold (D.told disk.old) (D.told disk.new) (λ before after. HoldsLedger before.areas r.0.changes)) }
+        ensures owed { IfOk result (λ r. r.1.items ≡ live_ids r.0.changes) }
+        ensures fresh { IfOk result (λ r. (r.0.room ≡ room) × (r.0.limit ≡ live) × (r.0.is_spent ≡ false)) }
+        ensures keeps { IfOk result (λ r. KeepsLedger r.0.changes (D.told disk.new) (D.may_leave disk.new)) }
+        // A short area is made the two bytes of an empty journal.
+        ensures made { IfOk result (λ r. IfTold (D.told disk.old) (D.told disk.new) (λ before after.
+            length (selected before.areas) < 3 → selected after.areas ≡ area_bytes [])) }
+        ensures damaged { (place : ℕ) → IsErrOf result (LedgerErr.Damaged place) → IfTold (D.told disk.old) (D.told disk.new) (λ before after.
+            IsLedgerDamagedAt before.areas place) }
+        // What a crash at any moment of the call leaves, where the area held a ledger.
+        ensures moments { (ledger : List Change) → IfTold (D.told disk.old) (D.told disk.new) (λ before after. HoldsLedger before.areas ledger
+            → IsLedgerOpening ledger (is_ok result) (D.may_leave disk.old) (D.may_leave disk.new) before after) }
+        // What it leaves, whatever the area held.
+        ensures entries { IfTold (D.told disk.old) (D.told disk.new) (IsOpening (D.may_leave disk.old) (D.may_leave disk.new)) }
+        ensures others { IfTold (D.told disk.old) (D.told disk.new) (LeavesOthers (D.may_leave disk.old) (D.may_leave disk.new)) }
+        ensures host { LeavesHost D.told D.above disk.old disk.new }
+        ensures cause { HasCauseBy is_disk_fault (D.faults disk.old) (D.faults disk.new) result }
+    {
+        let (journal, entries) = Journal::open(alloc, disk, room)?;
+        let mut changes = changes_of(alloc, &entries)?;
+        let ids = live_ids(alloc, &changes)?;
+        changes.reserve(ids.len())?;
+        let owed = owed_of(alloc, &ids)?;
+        let ledger = Ledger {
+            journal,
+            changes,
+            live: ids.len(),
+            limit: live,
+            payload: Vec::new(alloc),
+        };
+        Ok((ledger, owed))
+    }
+
+    /// The ledger that the journal's area holds, which is neither written nor synced.
+    pub fn view<D: Disk>(alloc: Global, disk: &mut D) -> Result<Vec<Change>, LedgerErr>
+        ensures held { IfOk result (λ changes. IfTold (D.told disk.old) (D.told disk.new) (λ before after. HoldsLedger before.areas changes.items)) }
+        ensures damaged { (place : ℕ) → IsErrOf result (LedgerErr.Damaged place) → IfTold (D.told disk.old) (D.told disk.new) (λ before after.
+            IsLedgerDamagedAt before.areas place) }
+        ensures areas { IfTold (D.told disk.old) (D.told disk.new) (LeavesAreas (D.may_leave disk.old) (D.may_leave disk.new)) }
+        ensures host { LeavesHost D.told D.above disk.old disk.new }
+        ensures cause { HasCauseBy is_disk_fault (D.faults disk.old) (D.faults disk.new) result }
+    {
+        let entries = Journal::read(alloc, disk)?;
+        changes_of(alloc, &entries)
+    }
+
+    /// Whether a record has this digest.
+    pub fn seen(&self, digest: &Digest) -> bool
+        ensures { result ≡ is_seen digest.now.0 self.now.changes }
+    {
+        is_seen(&self.changes, digest)
+    }
+
+    /// The number of the next record.
+    pub fn next_id(&self) -> u64
+        ensures { result ≡ next_id self.now.changes }
+    {
+        next_id(&self.changes)
+    }
+
+    /// How many records are live.
+    pub fn live(&self) -> usize
+        ensures { result ≡ length (live self.now.changes) }
+    {
+        self.live
+    }
+
+    /// The live record of this number.
+    pub fn get(&self, id: u64) -> Option<&OpenRecord>
+        ensures { option_copied result ≡ find (λ item. item.id == id) (live self.now.changes) }
+    {
+        live_record(&self.changes, id)
+    }
+
+    /// Whether a call failed, so that the ledger has to be opened again.
+    pub fn is_spent(&self) -> bool
+        ensures { result ≡ self.now.is_spent }
+    {
+        self.journal.is_spent()
+    }
+
+    /// Makes room in memory for this record and, later, its Done.
+    pub fn reserve(&mut self, item: &OpenRecord) -> Result<(), NoMemory>
+        requires { AreCommandWords item.now.close }
+        ensures ok { OnOk result (length (record_bytes item.now) ≤ self.new.reserved) }
+        ensures more { self.old.reserved ≤ self.new.reserved }
+        ensures rest { self.new ≡ record self.old { reserved = self.new.reserved } }
+    {
+        let len = record_len(item);
+        self.payload.clear();
+        self.payload.reserve(len)?;
+        self.journal.reserve(len)?;
+        self.changes.reserve(self.live + 2)?;
+        Ok(())
+    }
+
+    /// Records a granted datagram on the disk, by four calls. What is owed for it is its close.
+    pub fn record<D: Disk>(&mut self, disk: &mut D, item: OpenRecord) -> Result<Owed, RecordFault>
+        requires unspent { self.old.is_spent ≡ false }
+        requires next { MayFollow self.old.changes (Open item) }
+        requires words { AreCommandWords item.close }
+        requires reserved { length (record_bytes item) ≤ self.old.reserved }
+        requires keeps { KeepsLedger self.old.changes (D.told disk.old) (D.may_leave disk.old) }
+        ensures ok { OnOk result (self.new ≡ record self.old { changes = after self.old.changes (Open item ∷ []); reserved = self.new.reserved }) }
+        ensures owed { IfOk result (λ owed. owed ≡ item.id) }
+        ensures full { IsErrOf result RecordFault.Full ↔ (has_room self.old.room self.old.limit self.old.changes item ≡ false) }
+        ensures nothing { IsErrOf result RecordFault.Full → (self.new ≡ self.old) × (disk.new ≡ disk.old) }
+        ensures spent { IsErrOf result RecordFault.Disk → self.new ≡ record self.old { is_spent = true } }
+        ensures keeps { OnOk result (KeepsLedger self.new.changes (D.told disk.new) (D.may_leave disk.new)) }
+        // A crash at any moment of the call leaves the ledger from before, with this record or without.
+        ensures moments { IfTold (D.told disk.old) (D.told disk.new)
+            (Stretch self.old.changes (Open item ∷ []) (is_ok result) (D.may_leave disk.old) (D.may_leave disk.new)) }
+        ensures others { IfTold (D.told disk.old) (D.told disk.new) (LeavesOthers (D.may_leave disk.old) (D.may_leave disk.new)) }
+        ensures calls { OnOk result (IfTold (D.told disk.old) (D.told disk.new) (λ before after. after.moments ≡ before.moments + 4)) }
+        ensures host { LeavesHost D.told D.above disk.old disk.new }
+        ensures cause { HasCauseBy is_disk_record_fault (D.faults disk.old) (D.faults disk.new) result }
+    {
+        if !self.has_room(&item) {
+            return Err(RecordFault::Full);
+        }
+        write_record(&mut self.payload, &item);
+        match self.journal.append(disk, 1, &self.payload) {
+            Ok(()) => {
+                let owed = Owed::new(item.id);
+                self.changes.push_reserved(Change::Open(item));
+                self.live += 1;
+                Ok(owed)
+            }
+            Err(Failed) => Err(RecordFault::Disk),
+        }
+    }
+
+    /// Settles a live record on the disk, by four calls: a clean close of it has ended well.
+    pub fn settle<D: Disk>(
+        &mut self,
+        disk: &mut D,
+        owed: Owed,
+        end: CloseEnd,
+    ) -> Result<(), (Owed, Failed)>
+        requires unspent { self.old.is_spent ≡ false }
+        requires same { end ≡ owed }
+        requires lives { Contains (live_ids self.old.changes) owed }
+        requires keeps { KeepsLedger self.old.changes (D.told disk.old) (D.may_leave disk.old) }
+        ensures ok { OnOk result (self.new ≡ record self.old { changes = after self.old.changes (Done owed ∷ []) }) }
+        ensures err { IfErr result (λ e. (e.0 ≡ owed) × (self.new ≡ record self.old { is_spent = true })) }
+        ensures keeps { OnOk result (KeepsLedger self.new.changes (D.told disk.new) (D.may_leave disk.new)) }
+        // A crash at any moment of the call leaves the ledger from before, with this Done or without.
+        ensures moments { IfTold (D.told disk.old) (D.told disk.new)
+            (Stretch self.old.changes (Done owed ∷ []) (is_ok result) (D.may_leave disk.old) (D.may_leave disk.new)) }
+        ensures others { IfTold (D.told disk.old) (D.told disk.new) (LeavesOthers (D.may_leave disk.old) (D.may_leave disk.new)) }
+        ensures calls { OnOk result (IfTold (D.told disk.old) (D.told disk.new) (λ before after. after.moments ≡ before.moments + 4)) }
+        ensures host { LeavesHost D.told D.above disk.old disk.new }
+        ensures cause { HasCauseBy (λ _. true) (D.faults disk.old) (D.faults disk.new) result }
+    {
+        let id = owed.id();
+        match self.journal.append(disk, 2, &id.to_be_bytes()) {
+            Ok(()) => {
+                owed.spend();
+                self.changes.push_reserved(Change::Done(id));
+                self.live -= 1;
+                Ok(())
+            }
+            Err(Failed) => Err((owed, Failed)),
+        }
+    }
+
+    /// Ends the run: takes back what is owed, and leaves each record on the disk as it is.
+    pub fn park(self, owed: Vec<Owed>)
+        requires { IsPermutation owed.items (live_ids self.changes) }
+    {
+        spend_all(owed);
+    }
+
+    fn has_room(&self, item: &OpenRecord) -> bool
+        requires { AreCommandWords item.now.close }
+        ensures { result ≡ has_room self.now.room self.now.limit self.now.changes item.now }
+    {
+        let live = self.live as u64;
+        live < u64::from(self.limit)
+            && 6 + record_len(item) as u64 + 14 * (live + 1) <= self.journal.room()
+    }
+}

@@ -1,0 +1,28 @@
+//! The ledger of granted datagrams on a journal: which digests were seen, which records are live, and what is owed for each.
+//!
+//! A record is on the disk before it counts, and its close is owed until a Done is. What a command does, and when a close is
+//! due, is not known here; nor are bytes written but through the journal.
+//!
+//! Start at `ledger` for the calls, at `specs/Holds.antt` for what a disk holds, and at `specs/Stretch.antt` for what a crash at
+//! any moment of a call may leave.
+#![tactic(auto)]
+
+mod changes;
+mod fault;
+mod laws;
+mod ledger;
+mod owed;
+mod reading;
+#[cfg(test)]
+mod tests;
+mod writing;
+
+/// Why a ledger can't be opened or read. What is damaged is the area or an entry.
+pub use fault::RecordFault;
+pub use fk_journal::JournalErr as LedgerErr;
+pub use laws::{
+    a_stretch_may_be_cut, adjoining_stretches_are_one, calls_that_leave_the_areas_are_a_stretch,
+    no_area_holds_two_ledgers,
+};
+pub use ledger::Ledger;
+pub use owed::Owed;

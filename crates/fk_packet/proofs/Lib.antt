@@ -1,0 +1,3 @@
+pub mod TextLetters
+pub mod Law
+pub mod Answered

@@ -1,0 +1,4 @@
+pub mod Shape
+pub mod Packs
+pub mod Opens
+pub mod Private

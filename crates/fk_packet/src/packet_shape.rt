@@ -1,0 +1,38 @@
+ghost use Rattle.std.specs.Prelude.{◌≡◌, MatchResult, None, Some};
+ghost use Rattle.fk_packet.specs.Shape.{shape_fault};
+
+use fk_text::first_bad_byte;
+
+/// The letters that begin the text of all sealed bytes, and that are left out of a datagram.
+pub(crate) const PREFIX: &[u8; 10] = b"U2FsdGVkX1";
+
+const SHORTEST_DATAGRAM: usize = 140;
+
+const LONGEST_DATAGRAM: usize = 1500;
+
+/// Why a datagram has not the right shape, in the order in which it is tested.
+#[derive(Clone, Copy, Debug, PartialEq, Eq)]
+pub enum PacketShape {
+    /// It has fewer than 140 or more than 1500 bytes.
+    Size,
+    /// The first place whose byte is none of the 64 letters of base64.
+    Alphabet(usize),
+    /// It begins with the ten letters that are left out.
+    Prefix,
+}
+
+/// The first test of its shape that a datagram fails. It asks for no key and no memory.
+pub fn shape(datagram: &[u8]) -> Result<(), PacketShape>
+    ensures { MatchResult result (λ _. shape_fault datagram.now ≡ None) (λ fault. shape_fault datagram.now ≡ Some fault) }
+{
+    if datagram.len() < SHORTEST_DATAGRAM || datagram.len() > LONGEST_DATAGRAM {
+        return Err(PacketShape::Size);
+    }
+    if let Some(place) = first_bad_byte(datagram) {
+        return Err(PacketShape::Alphabet(place));
+    }
+    if datagram.starts_with(PREFIX) {
+        return Err(PacketShape::Prefix);
+    }
+    Ok(())
+}

@@ -1,0 +1,8 @@
+pub mod Older
+pub mod Owed
+pub mod Makes
+pub mod Ledgers
+pub mod Keeping
+pub mod Leaves
+pub mod RowParts
+mod WorkedRows

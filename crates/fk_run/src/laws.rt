@@ -1,0 +1,39 @@
+ghost use Rattle.std.specs.Prelude.{◌≡◌, ℕ, List, [], ◌∷◌, ◌++◌};
+ghost use Rattle.std.specs.List.{flat_map, Contains};
+ghost use Rattle.fk_base.specs.declared.purpose.Purpose.TheVariants.{Open, Close};
+ghost use Rattle.fk_trace.specs.Trace.{Item, past_after};
+ghost use Rattle.fk_trace.specs.Ledger.{dones, after, IsLedger};
+ghost use Rattle.fk_trace.specs.Legal.{IsAttempt};
+ghost use Rattle.fk_trace.specs.Headline.{EndedCleanly};
+ghost use Rattle.fk_run.specs.Place.{entry};
+ghost use Rattle.fk_run.specs.Turn.{TakenTurn};
+ghost use Rattle.fk_run.specs.Run.{Run, trace_of, changes_of, changes_by_turn};
+ghost use Rattle.fk_run.specs.Legal.{Legal};
+ghost use Rattle.fk_run.specs.Planned.{MakesWhatIsPlanned};
+ghost use Rattle.fk_run.specs.Headline.{OpensByGrant, OpensOnce, ClosesWhenDue, IsWholeTurnOf, StartsWhatIsOwed};
+
+/// Every legal run keeps the headline: an open is attempted only for a granted datagram, and at most once for each digest; a
+/// close only for a live record that is due; only a clean close that ended well settles a record; and each turn that is not cut
+/// short starts what is owed at it.
+pub fn legal_runs_keep_the_headline()
+    ensures opens { (run : Run) → Legal run → (before : List Item) (item : Item) (later : List Item) (id : ℕ) (words : List (List ℕ))
+        → trace_of run ≡ before ++ item ∷ later → IsAttempt (Open id) words item.event → OpensByGrant run before id words }
+    ensures once { (run : Run) → Legal run → OpensOnce run }
+    ensures closes { (run : Run) → Legal run → (before : List Item) (item : Item) (later : List Item) (id : ℕ) (words : List (List ℕ))
+        → trace_of run ≡ before ++ item ∷ later → IsAttempt (Close id) words item.event → ClosesWhenDue run before id words }
+    ensures settles { (run : Run) → Legal run → (id : ℕ) → Contains (dones (changes_of run)) id → EndedCleanly (trace_of run) id }
+    ensures starts { (run : Run) → Legal run → (front : List TakenTurn) (taken : TakenTurn) → IsWholeTurnOf run front taken
+        → StartsWhatIsOwed run front taken }
+{}
+
+/// A legal run makes the changes that are planned for its turns: all of them, or, where its last turn is cut, all of the turns
+/// before it and a front of those of the last.
+pub fn legal_runs_make_what_is_planned()
+    ensures { (run : Run) → Legal run → MakesWhatIsPlanned run }
+{}
+
+/// A legal run over a ledger leaves a ledger: its records are numbered on, no digest stands twice, and each Done names a record
+/// that is live before it.
+pub fn legal_runs_leave_a_ledger()
+    ensures { (run : Run) → Legal run → IsLedger run.ledger → IsLedger (after run.ledger (changes_of run)) }
+{}

@@ -1,0 +1,12 @@
+pub mod Logging
+pub mod Items
+pub mod Places
+pub mod Lines
+pub mod Finishing
+pub mod Wholes
+pub mod Assembly
+pub mod Parting
+pub mod Opening
+pub mod Closing
+pub mod Granting
+pub mod Starting

@@ -1,0 +1,339 @@
+-- A datagram is refused, or recorded and opened.
+use Rattle.std.proofs.Common.{◌≡◌, ℕ, Bool, true, false, cond, List, [], ◌∷◌, ◌++◌, Option, Some, None, Result, Ok, Err, inl, inr, refl, sym, ap, subst, ◌∙◌, append-nil}
+use Rattle.std.specs.Prelude.{IsErrAnd}
+use Rattle.std.specs.List.{Contains, cons_option}
+use Rattle.fk_base.specs.declared.address.Ip4.{Ip4}
+use Rattle.fk_base.specs.declared.grant.Grant.{Grant}
+use Rattle.fk_base.specs.declared.purpose.Purpose.{Purpose}
+use Rattle.fk_base.specs.declared.purpose.Purpose.TheVariants.{Open}
+use Rattle.fk_trace.specs.declared.change.OpenRecord.{OpenRecord}
+use Rattle.fk_trace.specs.declared.change.Change.{Change}
+use Rattle.fk_trace.specs.declared.change.Change.TheVariants.{Open as OpenChange}
+use Rattle.fk_trace.specs.declared.refusal.LogWhy.{LogWhy}
+use Rattle.fk_trace.specs.declared.refusal.LogWhy.TheVariants.{Replay, Full}
+use Rattle.fk_trace.specs.Trace.{Event, Item, attempt_of}
+use Rattle.fk_trace.specs.Trace.Event.{Turn, Began, StartFailed, Ended, Runs, PollFailed}
+use Rattle.fk_trace.specs.Ledger.{after, is_seen, seen, MayFollow}
+use Rattle.fk_trace.specs.Decision.{FeedTurn, Permit, Rules, Verdict, Answer, answer_formed, answer_by, record_of}
+use Rattle.fk_trace.specs.Decision.Input.{Quiet}
+use Rattle.fk_trace.specs.Decision.Answer.{Refuses, Opens}
+use Rattle.fk_trace.specs.Planned.{recorded_by}
+use Rattle.fk_trace.specs.Legal.{IsAttempt, AttemptsThatOpen}
+use Rattle.fk_trace.proofs.Grants.{fresh-unseen}
+use Rattle.fk_run.specs.Place.{Place}
+use Rattle.fk_host.specs.Count.{counted}
+use Rattle.fk_host.specs.Disk.{Told, IfTold, Above}
+use Rattle.fk_log.specs.Line.{Line}
+use Rattle.fk_log.specs.Line.Line.{RefusedLine, GrantedLine, OpenedLine}
+use Rattle.fk_log.specs.Log.{input_lines, attempt_line, attempt_lines}
+use Rattle.fk_log.specs.Log.RefusalLine.{Untold}
+use Rattle.fk_log.specs.Writing.{Output, Logs}
+use Rattle.fk_conf.specs.declared.conf.Conf.{Conf}
+use Rattle.fk_ledger.specs.Book.{Book, has_room, live_ids}
+use Rattle.fk_ledger.specs.Holds.{KeepsLedger}
+use Rattle.fk_ledger.specs.Stretch.{Stretch}
+use Rattle.fk_child.specs.View.{View, AddsItems, Adds}
+use Rattle.fk_child.specs.Crew.{CrewState, IsTied}
+use Rattle.fk_child.specs.Calls.{Goes, AwaitsOpen, is_begun, recorded}
+use Rattle.fk_turn.specs.declared.policy.Policy.{Policy}
+use Rattle.fk_turn.specs.declared.turn_err.TurnErr.{TurnErr}
+use Rattle.fk_turn.specs.declared.turn_err.TurnErr.TheVariants.{Disk, NoMemory}
+use Rattle.fk_turn.specs.Daemon.{DaemonState, Scene, DaemonStands, AtRest, scene}
+use Rattle.fk_turn.specs.Rules.{rules_by, permit_of}
+use Rattle.fk_turn.specs.Serving.{Serves}
+use Rattle.fk_turn.specs.Parts.{answer_at, answering, Answers, AnswersWhole, FailsToRecord, WantsToAnswer, IsGrantedBy, IsDraftOf, IsLike, datagram_turn}
+use Rattle.fk_child.proofs.Images.{adds-append}
+use Rattle.fk_log.proofs.Logged.{Logs-append}
+use Rattle.fk_turn.proofs.Logging.{logs-nothing}
+use Rattle.fk_turn.specs.declared.decision.Draft.{Draft}
+use Rattle.fk_turn.proofs.Lines.{no_refusal-told}
+use Rattle.fk_turn.proofs.Assembly.{owes-live}
+use Rattle.fk_turn.proofs.Parting.{crew_host, reached-nothing}
+
+-- calls of the disk add no item
+pub no-items : (a b : Option Told) → IfTold a b (λ before later. later.trace ≡ before.trace) → IfTold a b (AddsItems [])
+no-items a None h = tt
+no-items None (Some later) h = absurd h
+no-items (Some before) (Some later) h = record { trace = h ∙ sym (append-nil before.trace); placed = tt }
+
+-- the line of an attempt of an open
+pub open-line : (moment id : ℕ) (words : List (List ℕ)) (event : Event) → IsAttempt (Open id) words event
+    → cons_option (attempt_line moment (attempt_of event)) [] ≡ OpenedLine moment id words (is_begun event) ∷ []
+open-line moment id words (Turn number) h = absurd h
+open-line moment id words (Began number purpose others) h =
+    ap (λ (p : Purpose). cons_option (attempt_line moment (attempt_of (Began number p others))) []) h.0 ∙ ap (λ (ws : List (List ℕ)). OpenedLine moment id ws true ∷ []) h.1
+open-line moment id words (StartFailed purpose others) h =
+    ap (λ (p : Purpose). cons_option (attempt_line moment (attempt_of (StartFailed p others))) []) h.0 ∙ ap (λ (ws : List (List ℕ)). OpenedLine moment id ws false ∷ []) h.1
+open-line moment id words (Ended number good) h = absurd h
+open-line moment id words (Runs number) h = absurd h
+open-line moment id words (PollFailed number) h = absurd h
+
+-- a datagram is refused, and told so
+pub refuses : (policy : Policy) (place : Place) (moment : ℕ) (source : Ip4) (datagram : List ℕ) (why : LogWhy) (d : DaemonState) (h : View) (o0 o1 : Output)
+    → answer_at policy place (datagram_turn moment source datagram) ≡ Refuses why
+    → AtRest policy.conf.now (scene d h o0) place → Adds [] place.ledger [] true h h → Logs (RefusedLine moment source why ∷ []) o0 o1
+    → AnswersWhole policy place (datagram_turn moment source datagram) (scene d h o0) (scene d h o1)
+refuses policy place moment source datagram why d h o0 o1 e rest adds line =
+    let turn : FeedTurn = datagram_turn moment source datagram in
+    let s1 : Scene = scene d h o1 in
+    let stands : DaemonStands policy.conf.now s1 place = record {
+      changes = rest.stands.changes;
+      limit = rest.stands.limit;
+      room = rest.stands.room;
+      unspent = rest.stands.unspent;
+      stands = rest.stands.stands;
+      number = rest.stands.number;
+    } in
+    let serves : Serves policy.conf.now moment place (answering turn (Refuses why) []) (scene d h o0) s1 = record {
+      adds = adds;
+      disk = refl;
+      logs = line;
+      stands = subst (DaemonStands policy.conf.now s1) (reached-nothing moment place) stands;
+    } in
+    record {
+      opened = [];
+      attempts = subst (λ (a : Answer). AttemptsThatOpen a []) (sym e) refl;
+      serves = subst (λ (a : Answer). Serves policy.conf.now moment place (answering turn a []) (scene d h o0) s1) (sym e) serves;
+      settled = rest.settled;
+    }
+
+module _ (policy : Policy) (place : Place) (moment : ℕ) (source : Ip4) (datagram : List ℕ) (grant : Grant) (granted : IsGrantedBy policy place.ledger moment source datagram grant) (item : OpenRecord)
+    (made : item ≡ record_of (rules_by policy) place.ledger moment datagram (permit_of policy.access.now grant)) where
+  abbrev rules : Rules
+  rules = rules_by policy
+
+  abbrev permit : Permit
+  permit = permit_of policy.access.now grant
+
+  abbrev turn : FeedTurn
+  turn = datagram_turn moment source datagram
+
+  -- what is answered then depends on the room alone
+  by-room : answer_at policy place turn ≡ cond (rules.has_room place.ledger item) (Opens item permit) (Refuses Full)
+  by-room =
+      ap (λ (shape : Option LogWhy). answer_formed rules place.ledger moment source datagram shape) granted.formed
+      ∙ ap (λ (known : Bool). cond known (Refuses Replay) (answer_by rules place.ledger moment datagram (rules.admit moment source datagram))) granted.unseen
+      ∙ ap (λ (verdict : Verdict). answer_by rules place.ledger moment datagram verdict) granted.admitted
+      ∙ ap (λ (x : OpenRecord). cond (rules.has_room place.ledger x) (Opens x permit) (Refuses Full)) (sym made)
+
+  module _ (d : DaemonState) (h0 : View) (o0 : Output) (rest : AtRest policy.conf.now (scene d h0 o0) place) where
+    -- the room in the ledger is that of the rules
+    room-is : has_room d.book.room d.book.limit d.book.changes item ≡ rules.has_room place.ledger item
+    room-is =
+        ap (λ (n : ℕ). has_room n d.book.limit d.book.changes item) rest.stands.room
+        ∙ ap (λ (n : ℕ). has_room policy.conf.now.room n d.book.changes item) rest.stands.limit
+        ∙ ap (λ (cs : List Change). has_room policy.conf.now.room policy.conf.now.live cs item) rest.stands.changes
+
+    pub full-refused : has_room d.book.room d.book.limit d.book.changes item ≡ false → answer_at policy place turn ≡ Refuses Full
+    full-refused full = by-room ∙ ap (λ (b : Bool). cond b (Opens item permit) (Refuses Full)) (sym room-is ∙ full)
+
+    pub room-opens : (has_room d.book.room d.book.limit d.book.changes item ≡ false → ⊥) → answer_at policy place turn ≡ Opens item permit
+    room-opens some = by-room ∙ (elim (rules.has_room place.ledger item) as (λ b. rules.has_room place.ledger item ≡ b → cond b (Opens item permit) (Refuses Full) ≡ Opens item permit) [
+      | true ↦ λ e. refl
+      | false ↦ λ e. absurd (some (room-is ∙ e))
+    ]) refl
+
+    -- the disk failed in the call that records
+    pub fails-record : (book : Book) (h1 : View) → answer_at policy place turn ≡ Opens item permit
+        → IfTold h0.told h1.told (λ before later. later.trace ≡ before.trace)
+        → IfTold h0.told h1.told (Stretch d.book.changes (OpenChange item ∷ []) false h0.images h1.images)
+        → h1.faults ≡ counted h0.faults → book.changes ≡ d.book.changes
+        → FailsToRecord policy place turn (scene d h0 o0) (scene (record d { book = book }) h1 o0)
+    fails-record book h1 opens trace stretch faults changes = record {
+      item = item;
+      permit = permit;
+      given = opens;
+      adds = record {
+        trace = no-items h0.told h1.told trace;
+        stretch = subst (λ (cs : List Change). IfTold h0.told h1.told (Stretch cs (OpenChange item ∷ []) false h0.images h1.images)) rest.stands.changes stretch;
+        faults = tt;
+      };
+      disk = faults;
+      logs = logs-nothing o0;
+      parks = rest.stands.stands.tied.owes ∙ ap live_ids (sym (changes ∙ rest.stands.changes));
+    }
+
+    -- the record was made
+    module _ (book : Book) (h1 : View) (opens : answer_at policy place turn ≡ Opens item permit)
+        (trace : IfTold h0.told h1.told (λ before later. later.trace ≡ before.trace)) (above : h1.above ≡ h0.above)
+        (stretch : IfTold h0.told h1.told (Stretch d.book.changes (OpenChange item ∷ []) true h0.images h1.images)) (faults : h1.faults ≡ h0.faults)
+        (kept : book ≡ record d.book { changes = after d.book.changes (OpenChange item ∷ []); reserved = book.reserved }) where
+      abbrev open_place : Place
+      open_place = recorded place item
+
+      changes-are : book.changes ≡ open_place.ledger
+      changes-are = ap (λ (b : Book). b.changes) kept ∙ ap (λ (cs : List Change). cs ++ OpenChange item ∷ []) rest.stands.changes
+
+      adds1 : Adds [] place.ledger (OpenChange item ∷ []) true h0 h1
+      adds1 = record {
+        trace = no-items h0.told h1.told trace;
+        stretch = subst (λ (cs : List Change). IfTold h0.told h1.told (Stretch cs (OpenChange item ∷ []) true h0.images h1.images)) rest.stands.changes stretch;
+        faults = tt;
+      }
+
+      -- its open is yet to be attempted
+      pub awaits-open : (id : ℕ) → id ≡ item.id → (KeepsLedger book.changes h1.told h1.images) → AwaitsOpen id item.due item place (crew_host d.crew h1)
+      awaits-open id same keeps = record {
+        numbered = sym same;
+        until = refl;
+        tied = subst (λ (a : Above). IsTied d.crew a place) (sym above) rest.stands.stands.tied;
+        keeps = subst (λ (cs : List Change). KeepsLedger cs h1.told h1.images) changes-are keeps;
+      }
+
+      module _ (stanza : ℕ) (numbered : stanza ≡ grant.stanza) (o1 : Output) (granted-line : Logs (GrantedLine moment source item.id stanza item.due ∷ []) o0 o1) (crew : CrewState) (h2 : View) where
+        grant-logs : Logs (GrantedLine moment source item.id grant.stanza item.due ∷ []) o0 o1
+        grant-logs = subst (λ (n : ℕ). Logs (GrantedLine moment source item.id n item.due ∷ []) o0 o1) numbered granted-line
+
+        -- memory was wanting in the host's start
+        pub wants-start : Goes moment open_place [] (crew_host d.crew h1) (crew_host crew h2)
+            → WantsToAnswer policy place turn (scene d h0 o0) (scene (record { book = book; crew = crew; turns = d.turns }) h2 o1)
+        wants-start goes = record {
+          source = source;
+          datagram = datagram;
+          brought = refl;
+          formed = granted.formed;
+          fresh = fresh-unseen (rules.digest datagram) place.ledger granted.unseen;
+          changes = OpenChange item ∷ [];
+          front = inr (sym (ap recorded_by opens));
+          adds = adds-append [] [] place.ledger (OpenChange item ∷ []) [] true h0 h1 h2 adds1 faults goes.adds;
+          disk = goes.disk ∙ faults;
+          logs = subst (λ (a : Answer). Logs (input_lines moment turn.input Untold (OpenChange item ∷ []) a) o0 o1) (sym opens) grant-logs;
+          parks = goes.stands.tied.owes ∙ ap live_ids (sym changes-are);
+        }
+
+        -- its open was attempted
+        pub opens-whole : (opening : List (List ℕ)) (begun : Bool) (attempt : Item) (o2 : Output) → opening ≡ permit.opening → IsAttempt (Open item.id) opening attempt.event → begun ≡ is_begun attempt.event
+            → Goes moment open_place (attempt ∷ []) (crew_host d.crew h1) (crew_host crew h2) → Logs (OpenedLine moment item.id opening begun ∷ []) o1 o2 → crew.unsettled ≡ []
+            → AnswersWhole policy place turn (scene d h0 o0) (scene (record { book = book; crew = crew; turns = d.turns }) h2 o2)
+        opens-whole opening begun attempt o2 words tried is goes line settled =
+            let s2 : Scene = scene (record { book = book; crew = crew; turns = d.turns }) h2 o2 in
+            let lines : OpenedLine moment item.id opening begun ∷ [] ≡ attempt_lines moment (attempt ∷ []) =
+            ap (λ (b : Bool). OpenedLine moment item.id opening b ∷ []) is ∙ sym (open-line moment item.id opening attempt.event tried) in
+            let serves : Serves policy.conf.now moment place (answering turn (Opens item permit) (attempt ∷ [])) (scene d h0 o0) s2 = record {
+              adds = adds-append [] (attempt ∷ []) place.ledger (OpenChange item ∷ []) [] true h0 h1 h2 adds1 faults goes.adds;
+              disk = goes.disk ∙ faults;
+              logs = Logs-append (GrantedLine moment source item.id grant.stanza item.due ∷ []) (attempt_lines moment (attempt ∷ [])) o0 o1 o2 grant-logs
+                  (subst (λ (xs : List Line). Logs xs o1 o2) lines line);
+              stands = record {
+                changes = changes-are;
+                limit = ap (λ (b : Book). b.limit) kept ∙ rest.stands.limit;
+                room = ap (λ (b : Book). b.room) kept ∙ rest.stands.room;
+                unspent = ap (λ (b : Book). b.is_spent) kept ∙ rest.stands.unspent;
+                stands = goes.stands;
+                number = rest.stands.number;
+              };
+            } in
+            record {
+              opened = attempt ∷ [];
+              attempts = subst (λ (a : Answer). AttemptsThatOpen a (attempt ∷ [])) (sym opens) (subst (λ (ws : List (List ℕ)). IsAttempt (Open item.id) ws attempt.event) words tried);
+              serves = subst (λ (a : Answer). Serves policy.conf.now moment place (answering turn a (attempt ∷ [])) (scene d h0 o0) s2) (sym opens) serves;
+              settled = settled;
+            }
+
+-- what is answered where memory was wanting
+pub wanting : {T : Type 0} (policy : Policy) (place : Place) (at : FeedTurn) (old new : Scene) (r : Result T TurnErr) → IsErrAnd r (λ e. e ≡ NoMemory)
+    → WantsToAnswer policy place at old new → Answers policy place at old new r
+wanting policy place at old new (Ok x) h w = absurd h
+wanting {T = T} policy place at old new (Err e) h w = subst (λ (x : TurnErr). Answers {T = T} policy place at old new (Err x)) (sym h) w
+
+-- a daemon that has made room stands where it stood
+pub like-rests : (conf : Conf) (d e : DaemonState) (h : View) (o : Output) (place : Place) → IsLike d e → AtRest conf (scene d h o) place → AtRest conf (scene e h o) place
+like-rests conf d e h o place like rest =
+    let tied = rest.stands.stands.tied in
+    let alike : DaemonState = record { book = record d.book { reserved = e.book.reserved }; crew = record d.crew { room = e.crew.room }; turns = d.turns } in
+    let same : AtRest conf (scene alike h o) place = record {
+      stands = record {
+        changes = rest.stands.changes;
+        limit = rest.stands.limit;
+        room = rest.stands.room;
+        unspent = rest.stands.unspent;
+        stands = record {
+          tied = record {
+            owes = tied.owes;
+            runs = tied.runs;
+            stands = tied.stands;
+            waits = tied.waits;
+            once = tied.once;
+            unused = tied.unused;
+            known = tied.known;
+            below = tied.below;
+          };
+          keeps = rest.stands.stands.keeps;
+        };
+        number = rest.stands.number;
+      };
+      settled = rest.settled;
+    } in
+    subst (λ (x : DaemonState). AtRest conf (scene x h o) place) (sym like) same
+
+-- memory was wanting before the record
+pub wants-before : (policy : Policy) (place : Place) (moment : ℕ) (source : Ip4) (datagram : List ℕ) (d e : DaemonState) (h : View) (o : Output)
+    → AtRest policy.conf.now (scene d h o) place → (rules_by policy).misshapen datagram ≡ None → is_seen ((rules_by policy).digest datagram) d.book.changes ≡ false
+    → Adds [] place.ledger [] true h h → IsLike d e → WantsToAnswer policy place (datagram_turn moment source datagram) (scene d h o) (scene e h o)
+wants-before policy place moment source datagram d e h o rest formed unseen adds like =
+    let at : FeedTurn = datagram_turn moment source datagram in
+    let unseen_there : is_seen ((rules_by policy).digest datagram) place.ledger ≡ false =
+    ap (is_seen ((rules_by policy).digest datagram)) (sym rest.stands.changes) ∙ unseen in
+    record {
+      source = source;
+      datagram = datagram;
+      brought = refl;
+      formed = formed;
+      fresh = fresh-unseen ((rules_by policy).digest datagram) place.ledger unseen_there;
+      changes = [];
+      front = inl refl;
+      adds = adds;
+      disk = refl;
+      logs = subst (λ (xs : List Line). Logs xs o o) (sym (no_refusal-told moment at.input (answer_at policy place at))) (logs-nothing o);
+      parks = owes-live policy.conf.now (scene e h o) place (like-rests policy.conf.now d e h o place like rest).stands;
+    }
+
+-- the record of a draft may follow
+pub draft-follows : (policy : Policy) (ledger : List Change) (moment : ℕ) (source : Ip4) (datagram : List ℕ) (grant : Grant) (draft : Draft) → IsGrantedBy policy ledger moment source datagram grant
+    → IsDraftOf policy ledger moment datagram grant draft → MayFollow ledger (OpenChange draft.item)
+draft-follows policy ledger moment source datagram grant draft granted is = (
+  ap (λ (x : OpenRecord). x.id) is.item,
+  subst (λ (x : OpenRecord). Contains (seen ledger) x.digest.0 → ⊥) (sym is.item) (fresh-unseen ((rules_by policy).digest datagram) ledger granted.unseen),
+)
+
+-- what was answered over a daemon that has made room
+pub answers-from : {T : Type 0} (policy : Policy) (place : Place) (at : FeedTurn) (d e : DaemonState) (h : View) (o : Output) (new : Scene) (r : Result T TurnErr)
+    → Answers policy place at (scene e h o) new r → Answers policy place at (scene d h o) new r
+answers-from policy place at d e h o new (Ok x) a = record {
+  opened = a.opened;
+  attempts = a.attempts;
+  serves = record { adds = a.serves.adds; disk = a.serves.disk; logs = a.serves.logs; stands = a.serves.stands };
+  settled = a.settled;
+}
+answers-from policy place at d e h o new (Err Disk) a = record {
+  item = a.item;
+  permit = a.permit;
+  given = a.given;
+  adds = a.adds;
+  disk = a.disk;
+  logs = a.logs;
+  parks = a.parks;
+}
+answers-from policy place at d e h o new (Err NoMemory) a = record {
+  source = a.source;
+  datagram = a.datagram;
+  brought = a.brought;
+  formed = a.formed;
+  fresh = a.fresh;
+  changes = a.changes;
+  front = a.front;
+  adds = a.adds;
+  disk = a.disk;
+  logs = a.logs;
+  parks = a.parks;
+}
+
+-- a turn that brought nothing is answered nothing
+pub quietly : (policy : Policy) (place : Place) (moment : ℕ) (d : DaemonState) (h : View) (o : Output) → AtRest policy.conf.now (scene d h o) place → Adds [] place.ledger [] true h h
+    → AnswersWhole policy place (record { moment = moment; input = Quiet }) (scene d h o) (scene d h o)
+quietly policy place moment d h o rest adds = record {
+  opened = [];
+  attempts = refl;
+  serves = record { adds = adds; disk = refl; logs = logs-nothing o; stands = subst (DaemonStands policy.conf.now (scene d h o)) (reached-nothing moment place) rest.stands };
+  settled = rest.settled;
+}

@@ -1,0 +1,4 @@
+pub mod Rules
+pub mod Daemon
+pub mod Serving
+pub mod Parts

@@ -1,0 +1,101 @@
+-- What serving a turn does, whole or in part.
+use Rattle.std.specs.Prelude.{◌≡◌, ◌⊎◌, ◌<◌, ℕ, true, false, List, [], ◌∷◌, ◌++◌, Result, Ok, Err}
+use Rattle.std.specs.List.{AllPairs}
+use Rattle.fk_trace.specs.declared.change.Change.{Change}
+use Rattle.fk_trace.specs.Trace.{Item, children, past_after}
+use Rattle.fk_trace.specs.Decision.{FeedTurn}
+use Rattle.fk_run.specs.Place.{Place, behind, changed}
+use Rattle.fk_run.specs.Turn.{TakenTurn, WholeTurn, CutTurn, after_turn}
+use Rattle.fk_run.specs.Planned.{planned_turn}
+use Rattle.fk_run.specs.Run.Ending.{AtWantOfMemory}
+use Rattle.fk_run.specs.Ending.{WantsAtDatagram, WantsAtClose}
+use Rattle.fk_host.specs.Count.{counted}
+use Rattle.fk_log.specs.Line.{Line}
+use Rattle.fk_log.specs.Log.{RefusalLine, turn_lines, MayTellAt}
+use Rattle.fk_log.specs.Log.RefusalLine.{Told, Untold}
+use Rattle.fk_log.specs.Writing.{Logs}
+use Rattle.fk_conf.specs.declared.conf.Conf.{Conf}
+use Rattle.fk_ledger.specs.Book.{live_ids}
+use Rattle.fk_child.specs.View.{Adds}
+use Rattle.fk_turn.specs.declared.arrival.Arrival.{Arrival}
+use Rattle.fk_turn.specs.declared.policy.Policy.{Policy}
+use Rattle.fk_turn.specs.declared.turn_err.TurnErr.{TurnErr}
+use Rattle.fk_turn.specs.declared.turn_err.TurnErr.TheVariants.{Disk, NoMemory}
+use Rattle.fk_turn.specs.Daemon.{DaemonState, Scene, DaemonStands, AtRest}
+use Rattle.fk_turn.specs.Rules.{rules_by, turn_of}
+
+-- what a part of a turn adds to the trace, to the ledger and to the log
+pub record Part : Type 0 where
+  pub items : List Item
+  pub changes : List Change
+  pub lines : List Line
+
+abbrev pub joined : Part → Part → Part
+joined a b = record { items = a.items ++ b.items; changes = a.changes ++ b.changes; lines = a.lines ++ b.lines }
+
+-- the place behind a part of a turn with this moment
+abbrev pub reached : ℕ → Place → Part → Place
+reached moment place part = behind moment (changed place part.changes) part.items
+
+-- Such a part of a turn was served from the place. No call of the disk failed.
+pub record Serves (conf : Conf) (moment : ℕ) (place : Place) (part : Part) (old new : Scene) : Type 0 where
+  pub adds : Adds part.items place.ledger part.changes true old.host new.host
+  pub disk : new.host.faults ≡ old.host.faults
+  pub logs : Logs part.lines old.output new.output
+  pub stands : DaemonStands conf new (reached moment place part)
+
+-- the daemon holds one obligation for each live record of its ledger, so that it can be parked
+abbrev pub OwesItsLive : DaemonState → Type 0
+OwesItsLive daemon = daemon.crew.owed ≡ live_ids daemon.book.changes
+
+-- the turn was served whole
+pub record ServesWhole (policy : Policy) (place : Place) (turn : FeedTurn) (old new : Scene) : Type 0 where
+  pub taken : TakenTurn
+  pub of_turn : taken.turn ≡ turn
+  pub whole : WholeTurn (rules_by policy) place taken
+  pub adds : Adds taken.items place.ledger taken.changes true old.host new.host
+  pub disk : new.host.faults ≡ old.host.faults
+  pub logs : Logs (turn_lines (rules_by policy) place Told taken) old.output new.output
+  pub rests : AtRest policy.conf.now new (after_turn place taken)
+
+-- The disk failed in the turn, which is cut there: the trace and the log have what was served before. The change of the call that
+-- failed is the next of the planned ones.
+pub record FailsAtDisk (policy : Policy) (place : Place) (turn : FeedTurn) (old new : Scene) : Type 0 where
+  pub taken : TakenTurn
+  pub of_turn : taken.turn ≡ turn
+  pub cut : CutTurn (rules_by policy) place taken
+  pub next : Change
+  pub later : List Change
+  pub planned : taken.changes ++ next ∷ later ≡ planned_turn (rules_by policy) place taken
+  -- the host still numbers its children by rising numbers
+  pub numbered : AllPairs (λ a b. a.number < b.number) (children (past_after place.past taken.items))
+  pub adds : Adds taken.items place.ledger (taken.changes ++ next ∷ []) false old.host new.host
+  pub disk : new.host.faults ≡ counted old.host.faults
+  pub logs : Logs (turn_lines (rules_by policy) place Untold taken) old.output new.output
+  pub parks : OwesItsLive new.daemon
+
+-- Memory was wanting in the turn, for one of two causes, and the turn is cut there: the trace, the ledger and the log have what was
+-- served before.
+pub record WantsMemory (policy : Policy) (place : Place) (turn : FeedTurn) (old new : Scene) : Type 0 where
+  pub taken : TakenTurn
+  pub of_turn : taken.turn ≡ turn
+  pub cut : CutTurn (rules_by policy) place taken
+  pub cause : WantsAtDatagram (rules_by policy) place taken ⊎ WantsAtClose (rules_by policy) place taken
+  -- the host still numbers its children by rising numbers
+  pub numbered : AllPairs (λ a b. a.number < b.number) (children (past_after place.past taken.items))
+  pub adds : Adds taken.items place.ledger taken.changes true old.host new.host
+  pub disk : new.host.faults ≡ old.host.faults
+  pub told : RefusalLine
+  pub may : MayTellAt AtWantOfMemory taken.items told
+  pub logs : Logs (turn_lines (rules_by policy) place told taken) old.output new.output
+  pub parks : OwesItsLive new.daemon
+
+-- what serving a turn from the place does, by its answer
+abbrev pub ServesTurn : {T : Type 0} → Policy → Place → FeedTurn → Scene → Scene → Result T TurnErr → Type 0
+ServesTurn policy place turn old new (Ok _) = ServesWhole policy place turn old new
+ServesTurn policy place turn old new (Err Disk) = FailsAtDisk policy place turn old new
+ServesTurn policy place turn old new (Err NoMemory) = WantsMemory policy place turn old new
+
+-- from each place where the daemon was at rest, the turn was served so
+abbrev pub TakesTurn : {T : Type 0} → Policy → Arrival → Result T TurnErr → Scene → Scene → Type 0
+TakesTurn policy arrival result old new = (place : Place) → AtRest policy.conf.now old place → ServesTurn policy place (turn_of arrival) old new result
