@@ -5,10 +5,10 @@ use Rattle.std.proofs.lemmas.List.{length-append, length-map, length_push}
 use Rattle.std.proofs.lemmas.List.Elements.{length_all_zip}
 use Rattle.fk_trace.specs.declared.change.OpenRecord.{OpenRecord}
 use Rattle.fk_trace.specs.Trace.{Event, Item, Child, running, past_after}
-use Rattle.fk_trace.specs.Idle.{child_numbered}
+use Rattle.fk_trace.specs.Idle.{child_numbered, moments_with, ends_after}
 use Rattle.fk_trace.specs.Ledger.{live}
-use Rattle.fk_trace.specs.Legal.{IsPollOf, PollsEachOnce, moments_with, ends_after}
-use Rattle.fk_trace.specs.Planned.{settled_in}
+use Rattle.fk_trace.specs.Attempts.{IsPollOf, PollsEachOnce}
+use Rattle.fk_trace.specs.Settled.{settled_in}
 use Rattle.fk_trace.proofs.Settled.{past_after-append, settled_in-append}
 use Rattle.fk_run.specs.Place.{Place, behind}
 use Rattle.fk_child.specs.declared.items.EndItem.{EndItem}

@@ -14,11 +14,11 @@ use Rattle.fk_trace.specs.declared.change.OpenRecord.{OpenRecord}
 use Rattle.fk_trace.specs.declared.change.Change.{Change}
 use Rattle.fk_trace.specs.Trace.{Event, Item, Child, children, running, open_runs}
 use Rattle.fk_trace.specs.Trace.Event.{Ended, Runs, PollFailed}
-use Rattle.fk_trace.specs.Idle.{child_numbered, is_clean}
+use Rattle.fk_trace.specs.Idle.{child_numbered, is_clean, moments_with}
 use Rattle.fk_trace.specs.Orderly.{is_attempted}
 use Rattle.fk_trace.specs.Ledger.{live}
-use Rattle.fk_trace.specs.Planned.{settled_by, settled_by_child, settled_in}
-use Rattle.fk_trace.specs.Legal.{IsPollOf, moments_with}
+use Rattle.fk_trace.specs.Settled.{settled_by, settled_by_child, settled_in}
+use Rattle.fk_trace.specs.Attempts.{IsPollOf}
 use Rattle.fk_trace.proofs.Lists.{Contains-head, Contains-map, list_any-none, filter-map, map-step}
 use Rattle.fk_trace.proofs.Ledgers.{filter-filter}
 use Rattle.fk_trace.proofs.Running.{orderly-quiet, child_numbered-running}

@@ -12,7 +12,7 @@ use Rattle.fk_trace.specs.Trace.{Event, Item, Child, children, running, still_ru
 use Rattle.fk_trace.specs.Trace.Event.{Turn, Began, StartFailed, Ended, Runs, PollFailed}
 use Rattle.fk_trace.specs.Ledger.{next_id}
 use Rattle.fk_trace.specs.Orderly.{is_attempted, is_of_record}
-use Rattle.fk_trace.specs.Legal.{moments_with}
+use Rattle.fk_trace.specs.Idle.{moments_with}
 use Rattle.fk_trace.proofs.Lists.{list_any-find, find-filter_kept, All-by, Contains-tail}
 use Rattle.fk_trace.proofs.Running.{running-children}
 use Rattle.fk_trace.proofs.Splits.{AllPairs-front}

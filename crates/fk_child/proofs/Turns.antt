@@ -10,9 +10,9 @@ use Rattle.fk_trace.specs.declared.change.OpenRecord.{OpenRecord}
 use Rattle.fk_trace.specs.declared.change.Change.{Change}
 use Rattle.fk_trace.specs.Trace.{Event, Item, Child, running, open_runs, close_runs, close_tried, is_open_of, is_close_of}
 use Rattle.fk_trace.specs.Trace.Event.{Turn, Began, StartFailed, Ended, Runs, PollFailed}
-use Rattle.fk_trace.specs.Idle.{is_idle, last_close, ended_well, rests}
+use Rattle.fk_trace.specs.Idle.{is_idle, last_close, ended_well, rests, moments_with}
 use Rattle.fk_trace.specs.Ledger.{live, IsLedger}
-use Rattle.fk_trace.specs.Legal.{IsAttempt, Precedes, moments_with}
+use Rattle.fk_trace.specs.Attempts.{IsAttempt, Precedes}
 use Rattle.fk_trace.proofs.Lists.{Contains-head, Contains-tail, Contains-cases, Contains-map, Contains-unmap, All-by}
 use Rattle.fk_run.specs.Place.{Place, behind}
 use Rattle.fk_run.specs.Turn.{IsDueIdle, AttemptsEachDue}

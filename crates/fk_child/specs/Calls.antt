@@ -12,8 +12,8 @@ use Rattle.fk_trace.specs.Trace.{Event, Item, Child, close_tried}
 use Rattle.fk_trace.specs.Trace.Event.{Turn, Began, StartFailed, Ended, Runs, PollFailed}
 use Rattle.fk_trace.specs.Idle.{child_numbered}
 use Rattle.fk_trace.specs.Ledger.{live, after}
-use Rattle.fk_trace.specs.Planned.{settled_in}
-use Rattle.fk_trace.specs.Legal.{PollsEachOnce, IsAttempt}
+use Rattle.fk_trace.specs.Settled.{settled_in}
+use Rattle.fk_trace.specs.Attempts.{PollsEachOnce, IsAttempt}
 use Rattle.fk_run.specs.Place.{Place, behind, changed}
 use Rattle.fk_cycle.specs.Stands.{IsNextDue}
 use Rattle.fk_host.specs.Count.{counted}

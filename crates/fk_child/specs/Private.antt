@@ -3,8 +3,8 @@ use Rattle.std.specs.Prelude.{◌≡◌, ℕ, ◌+◌, ◌*◌, ◌<◌, ◌≤�
 use Rattle.std.specs.List.{AllZip}
 use Rattle.std.specs.VecDeque.{deque_capacity}
 use Rattle.fk_trace.specs.Trace.{Child, Item, running}
-use Rattle.fk_trace.specs.Planned.{settled_in}
-use Rattle.fk_trace.specs.Legal.{IsPollOf}
+use Rattle.fk_trace.specs.Settled.{settled_in}
+use Rattle.fk_trace.specs.Attempts.{IsPollOf}
 use Rattle.fk_run.specs.Place.{Place, behind}
 use Rattle.fk_cycle.specs.declared.act.Act.{Act}
 use Rattle.fk_cycle.specs.declared.act.Act.TheVariants.{Nothing, Wait, Settle}

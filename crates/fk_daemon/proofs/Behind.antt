@@ -7,8 +7,7 @@ use Rattle.std.proofs.lemmas.List.Sums.{sum_by-append}
 use Rattle.fk_trace.specs.declared.change.Change.{Change}
 use Rattle.fk_trace.specs.Trace.{Item}
 use Rattle.fk_trace.specs.Ledger.{after}
-use Rattle.fk_trace.specs.Decision.{FeedTurn, Rules, answer}
-use Rattle.fk_trace.specs.Planned.{recorded_by}
+use Rattle.fk_trace.specs.Decision.{FeedTurn, Rules, answer, recorded_by}
 use Rattle.fk_trace.proofs.Splits.{cases_joined, none_before}
 use Rattle.fk_run.specs.Place.{Place}
 use Rattle.fk_run.specs.Turn.{TakenTurn, WholeTurn, CutTurn, after_turn, after_turns}
@@ -17,7 +16,7 @@ use Rattle.fk_run.specs.Run.Ending.{AtLimit}
 use Rattle.fk_run.specs.Legal.{LegalTurns}
 use Rattle.fk_run.specs.Ending.{packets_in, is_datagram}
 use Rattle.fk_run.specs.Planned.{planned_turn, planned_turns}
-use Rattle.fk_run.proofs.Owed.{settlements-whole}
+use Rattle.fk_run.proofs.Turns.{settlements-whole}
 use Rattle.fk_host.specs.Feed.{Given, GivesTurns}
 use Rattle.fk_log.specs.Log.{last_items}
 use Rattle.fk_log.specs.Log.Opening.{Opened}

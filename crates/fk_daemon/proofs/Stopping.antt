@@ -14,7 +14,7 @@ use Rattle.fk_run.specs.Run.{Run, Ending, cuts_turn}
 use Rattle.fk_run.specs.Run.Ending.{AtLimit, AtEnd, AtFeedFault, AtDiskFault, AtWantOfMemory}
 use Rattle.fk_run.specs.Planned.{planned}
 use Rattle.fk_run.specs.Ending.{ReachesLimit, FitsLimits, WantsAtDatagram, WantsAtClose}
-use Rattle.fk_run.proofs.Owed.{past-after_turns}
+use Rattle.fk_run.proofs.Fronts.{past-after_turns}
 use Rattle.fk_host.specs.Count.{counted}
 use Rattle.fk_ledger.specs.Book.{live_ids}
 use Rattle.fk_log.specs.Line.{Line}

@@ -1,21 +1,18 @@
 -- What is asked of a list of changes, one by one.
 use Rattle.std.proofs.Common.{◌≡◌, ℕ, suc, ◌+◌, ◌<◌, ◌==◌, nat_eq, get_or, take, Bool, true, false, not, ◌||◌, cond, List, [], ◌∷◌, ◌++◌, length, map, refl, ap, sym, ◌∙◌, arith, Option, Some, None, subst, inl, inr}
-use Rattle.std.specs.Prelude.{count_by}
-use Rattle.std.specs.List.{filter, list_any, find}
-use Rattle.std.specs.Option.{option_and_then}
+use Rattle.std.specs.Prelude.{count_by, IsTrue, is_some}
+use Rattle.std.specs.List.{filter, list_any, find, Contains}
+use Rattle.std.specs.Option.{option_and_then, option_copied}
 use Rattle.std.specs.Cmp.Lexicographic.{pointwise}
 use Rattle.std.proofs.lemmas.Bool.Decides.{nat_tests}
-use Rattle.std.specs.Prelude.{IsTrue, is_some}
-use Rattle.std.specs.List.{Contains}
 use Rattle.std.specs.Borrow.{Bor}
-use Rattle.std.specs.Option.{option_copied}
 use Rattle.std.proofs.lemmas.List.{map-append, take_more}
 use Rattle.std.proofs.lemmas.List.Elements.{filter-append, filter_agree}
 use Rattle.std.proofs.lemmas.Slice.Eq.{bytes_eq-Decides}
 use Rattle.std.proofs.lemmas.List.Sums.{length-filter}
 use Rattle.fk_trace.proofs.Lists.{Contains-head, Contains-tail, Contains-cases, list_any-at}
 use Rattle.fk_trace.proofs.Grants.{fresh-unseen}
-use Rattle.fk_trace.proofs.Turns.{opens-append}
+use Rattle.fk_trace.proofs.Ledgers.{opens-append}
 use Rattle.fk_ledger.specs.Book.{live_ids}
 use Rattle.fk_trace.specs.declared.change.OpenRecord.{OpenRecord}
 use Rattle.fk_trace.specs.declared.change.Change.{Change}

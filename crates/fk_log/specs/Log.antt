@@ -6,14 +6,13 @@ use Rattle.fk_base.specs.declared.purpose.Purpose.{Purpose}
 use Rattle.fk_base.specs.declared.purpose.Purpose.TheVariants.{Open, Close}
 use Rattle.fk_trace.specs.declared.change.Change.{Change}
 use Rattle.fk_trace.specs.declared.change.Change.TheVariants.{Done}
-use Rattle.fk_trace.specs.Trace.{Event, Item, Child, Attempt, attempt_of}
+use Rattle.fk_trace.specs.Trace.{Event, Item, Child, Attempt, attempt_of, close_attempted}
 use Rattle.fk_trace.specs.Trace.Event.{Turn, Began, StartFailed, Ended, Runs, PollFailed}
 use Rattle.fk_trace.specs.Ledger.{opens, dones, live, after}
 use Rattle.fk_trace.specs.Idle.{child_numbered}
 use Rattle.fk_trace.specs.Decision.{Input, Rules, Answer, answer}
 use Rattle.fk_trace.specs.Decision.Input.{Quiet, Datagram}
 use Rattle.fk_trace.specs.Decision.Answer.{Nothing, Refuses, Opens}
-use Rattle.fk_trace.specs.Headline.{close_attempted}
 use Rattle.fk_run.specs.Place.{Place, entry}
 use Rattle.fk_run.specs.Turn.{TakenTurn, after_turn}
 use Rattle.fk_run.specs.Run.{Run, Ending, changes_of}

@@ -13,10 +13,10 @@ use Rattle.fk_trace.specs.Trace.{Event, Item, Child, children, running, still_ru
 use Rattle.fk_trace.specs.Trace.Event.{Turn, Began, StartFailed, Ended, Runs, PollFailed}
 use Rattle.fk_trace.specs.Ledger.{live, seen, IsLedger}
 use Rattle.fk_trace.specs.Idle.{child_numbered}
-use Rattle.fk_trace.specs.Decision.{Rules, FeedTurn, Answer, answer}
+use Rattle.fk_trace.specs.Decision.{Rules, FeedTurn, Answer, recorded_by, answer}
 use Rattle.fk_trace.specs.Decision.Answer.{Nothing, Refuses, Opens}
-use Rattle.fk_trace.specs.Planned.{settled_at, settled_in, settlements, recorded_by}
-use Rattle.fk_trace.specs.Legal.{IsPollOf, IsAttempt, AttemptsThatOpen, Precedes}
+use Rattle.fk_trace.specs.Settled.{settled_at, settled_in, settlements}
+use Rattle.fk_trace.specs.Attempts.{IsPollOf, IsAttempt, AttemptsThatOpen, Precedes}
 use Rattle.fk_trace.proofs.Lists.{Contains-head, Contains-tail, Contains-filter, Contains-map, Contains-unmap, find-only, same_by_key}
 use Rattle.fk_trace.proofs.Running.{running-children}
 use Rattle.fk_trace.proofs.Settled.{settled-event}

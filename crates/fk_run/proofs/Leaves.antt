@@ -60,13 +60,13 @@ module _ {rules : Rules} {place : Place} {taken : TakenTurn} where
       (subst (λ (changes : List Change). Keeps (running (past_after opened whole.closed)) (place.ledger ++ changes)) (sym whole.nothing_else.2) (subst (λ (all : List Change). Keeps (running (past_after opened whole.closed)) all) (sym alike) keeps_closed))
 
 -- the children before a place are the first of those after it
-children-after : (past items : List Item) → (more : List Child) × (children (past_after past items) ≡ children past ++ more)
+pub children-after : (past items : List Item) → (more : List Child) × (children (past_after past items) ≡ children past ++ more)
 children-after past [] = ([], sym (append-nil (children past)))
 children-after past (item ∷ items) =
     let rest = children-after (item ∷ past) items in
     (begun_by item.event ++ rest.0, rest.1 ∙ append_assoc (children past) (begun_by item.event) rest.0)
 
-numbered-before : (past items : List Item) → IsNumbered (children (past_after past items)) → IsNumbered (children past)
+pub numbered-before : (past items : List Item) → IsNumbered (children (past_after past items)) → IsNumbered (children past)
 numbered-before past items numbered =
     let all = children-after past items in
     AllPairs-front (λ (a b : Child). a.number < b.number) (children past) all.0 (subst IsNumbered all.1 numbered)

@@ -1,8 +1,14 @@
-pub mod Older
-pub mod Owed
-pub mod Makes
+pub mod Items
+pub mod Turns
 pub mod Ledgers
 pub mod Keeping
 pub mod Leaves
+pub mod Numbers
+pub mod Fronts
+pub mod Closings
+pub mod Runs
+pub mod Starts
+pub mod Owed
+pub mod Makes
 pub mod RowParts
 mod WorkedRows

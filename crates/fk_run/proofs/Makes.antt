@@ -1,34 +1,21 @@
 -- A legal run makes what is planned for its turns, since no attempt settles anything.
-use Rattle.std.proofs.Common.{◌≡◌, ℕ, false, List, [], ◌∷◌, ◌++◌, map, None, refl, sym, ap, ◌∙◌, subst, inl, inr, append_assoc, append-nil}
-use Rattle.std.specs.List.{flat_map, AllByRecursion}
+use Rattle.std.proofs.Common.{◌≡◌, ℕ, false, List, [], ◌∷◌, ◌++◌, map, refl, sym, ap, ◌∙◌, subst, inl, inr, append_assoc, append-nil}
+use Rattle.std.specs.List.{flat_map}
 use Rattle.fk_trace.specs.declared.change.Change.{Change}
 use Rattle.fk_trace.specs.declared.change.Change.TheVariants.{Done}
-use Rattle.fk_trace.specs.Trace.{Event, Item, past_after}
-use Rattle.fk_trace.specs.Trace.Event.{Turn, Began, StartFailed, Ended, Runs, PollFailed}
+use Rattle.fk_trace.specs.Trace.{past_after}
 use Rattle.fk_trace.specs.Ledger.{after}
-use Rattle.fk_trace.specs.Decision.{Rules, answer}
-use Rattle.fk_trace.specs.Planned.{settled_in, settled_at, recorded_by}
-use Rattle.fk_trace.specs.Legal.{IsNoPoll}
+use Rattle.fk_trace.specs.Decision.{Rules, answer, recorded_by}
+use Rattle.fk_trace.specs.Settled.{settled_in}
 use Rattle.fk_trace.proofs.Splits.{none_before}
-use Rattle.fk_trace.proofs.Settled.{settled_in-append, settled_in-none, SettlesNothing}
+use Rattle.fk_trace.proofs.Settled.{settled_in-append, settled_in-none}
 use Rattle.fk_run.specs.Place.{Place, entry}
 use Rattle.fk_run.specs.Turn.{TakenTurn, WholeTurn, CutTurn, after_turn}
 use Rattle.fk_run.specs.Run.{Run, Ending, cuts_turn, changes_by_turn}
 use Rattle.fk_run.specs.Legal.{Legal, LegalTurns}
 use Rattle.fk_run.specs.Planned.{planned_turn, planned_turns, MakesWhatIsPlanned}
-use Rattle.fk_run.proofs.Owed.{settlements-whole}
-
-no_poll-settles_none : (event : Event) → IsNoPoll event → (past : List Item) → settled_at past event ≡ None
-no_poll-settles_none (Turn number) h past = refl
-no_poll-settles_none (Began number purpose words) h past = refl
-no_poll-settles_none (StartFailed purpose words) h past = refl
-no_poll-settles_none (Ended number good) h past = absurd h
-no_poll-settles_none (Runs number) h past = refl
-no_poll-settles_none (PollFailed number) h past = refl
-
-no_polls : (items : List Item) → AllByRecursion (λ item. IsNoPoll item.event) items → AllByRecursion SettlesNothing items
-no_polls [] h = tt
-no_polls (item ∷ items) h = (no_poll-settles_none item.event h.0, no_polls items h.1)
+use Rattle.fk_run.proofs.Items.{no_polls}
+use Rattle.fk_run.proofs.Turns.{settlements-whole}
 
 module _ {rules : Rules} {place : Place} {taken : TakenTurn} where
   -- a whole turn makes what is planned for it

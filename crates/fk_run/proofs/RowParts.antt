@@ -8,7 +8,7 @@ use Rattle.fk_trace.specs.declared.change.OpenRecord.{OpenRecord}
 use Rattle.fk_trace.specs.Trace.{Item, Child, running}
 use Rattle.fk_trace.specs.Ledger.{live}
 use Rattle.fk_trace.specs.Idle.{is_idle}
-use Rattle.fk_trace.specs.Legal.{IsPollOf, PollsEachOnce, IsAttempt, Precedes}
+use Rattle.fk_trace.specs.Attempts.{IsPollOf, PollsEachOnce, IsAttempt, Precedes}
 use Rattle.fk_trace.proofs.Lists.{Contains-head, Contains-cases}
 use Rattle.fk_run.specs.Place.{Place}
 use Rattle.fk_run.specs.Turn.{IsDueIdle, AttemptsEachDue}

@@ -11,13 +11,12 @@ use Rattle.fk_trace.specs.declared.change.Change.{Change}
 use Rattle.fk_trace.specs.declared.change.Change.TheVariants.{Open as OpenChange, Done}
 use Rattle.fk_trace.specs.Trace.{Event, Item, Child, running}
 use Rattle.fk_trace.specs.Trace.Event.{Turn, Began, StartFailed, Ended, Runs, PollFailed}
-use Rattle.fk_trace.specs.Ledger.{live}
 use Rattle.fk_trace.specs.Idle.{is_idle}
 use Rattle.fk_trace.specs.Decision.{FeedTurn, Rules}
 use Rattle.fk_trace.specs.Decision.Input.{Quiet, Datagram}
 use Rattle.fk_trace.specs.Decision.Verdict.{Granted}
-use Rattle.fk_trace.specs.Planned.{settlements}
-use Rattle.fk_trace.specs.Legal.{PollsEachOnce, IsAttempt}
+use Rattle.fk_trace.specs.Settled.{settlements}
+use Rattle.fk_trace.specs.Attempts.{PollsEachOnce, IsAttempt}
 use Rattle.fk_run.specs.Place.{Place, entry, behind, changed}
 use Rattle.fk_run.specs.Turn.{TakenTurn, AttemptsEachDue, WholeTurn, CutTurn, after_turns}
 use Rattle.fk_run.specs.Run.{Run, Ending, changes_of}
@@ -26,9 +25,8 @@ use Rattle.fk_run.specs.Ending.{ReachesLimit, FitsLimits, WantsAtDatagram, Wants
 use Rattle.fk_run.specs.declared.limits.Limits.{Limits}
 use Rattle.fk_run.specs.Planned.{planned}
 use Rattle.fk_run.specs.Legal.{LegalTurns}
-use Rattle.fk_run.proofs.Older.{old-whole}
 use Rattle.fk_trace.proofs.Lists.{Contains-head}
-use Rattle.fk_trace.proofs.Starts.{starts-close}
+use Rattle.fk_run.proofs.Starts.{starts-close}
 use Rattle.fk_run.proofs.RowParts.{only, polls-none, polls-one, polls-two, closes-one, none-live, not-due, not-idle}
 
 abbrev source : Ip4
@@ -279,8 +277,7 @@ due_close_is_never_left_out : (ending : Ending) (next : TakenTurn) (later : List
 due_close_is_never_left_out ending next later legal =
     elim legal [
       | inl w ↦
-          let lives : Contains (live (found ++ (w.0.settled ++ w.0.recorded))) first = subst (λ (changes : List Change). Contains (live (found ++ changes)) first) w.0.nothing_else.2 (Contains-head first []) in
-          let attempt = starts-close (old-whole w.0) first lives (omega arith) refl in
+          let attempt = starts-close w.0 first (Contains-head first []) (omega arith) refl in
           let is : item_of (Turn 1) ≡ attempt.0 = only (item_of (Turn 1)) attempt.0 attempt.1 in
           subst (λ (item : Item). IsAttempt (Close 1) close_words item.event) (sym is) attempt.2
       | inr cut ↦ absurd (let some = cut.1 in cc)

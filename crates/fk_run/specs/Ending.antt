@@ -4,12 +4,11 @@ use Rattle.std.specs.Option.{option_map_or}
 use Rattle.std.specs.List.{count_by, Contains}
 use Rattle.fk_base.specs.declared.address.Ip4.{Ip4}
 use Rattle.fk_trace.specs.declared.change.OpenRecord.{OpenRecord}
-use Rattle.fk_trace.specs.Trace.{Item, Child, running}
+use Rattle.fk_trace.specs.Trace.{Item, Child, running, close_attempted}
 use Rattle.fk_trace.specs.Ledger.{seen}
 use Rattle.fk_trace.specs.Decision.{Input, Rules}
 use Rattle.fk_trace.specs.Decision.Input.{Quiet, Datagram}
-use Rattle.fk_trace.specs.Legal.{IsPollOf}
-use Rattle.fk_trace.specs.Headline.{close_attempted}
+use Rattle.fk_trace.specs.Attempts.{IsPollOf}
 use Rattle.fk_run.specs.declared.limits.Limits.{Limits}
 use Rattle.fk_run.specs.Place.{Place, entry}
 use Rattle.fk_run.specs.Turn.{TakenTurn, IsDueIdle, after_turn, after_turns}

@@ -1,72 +1,113 @@
--- The headline over one run: an open is attempted only for a datagram of the same turn that the rules grant, and at most once
--- for each digest; a close only for a live record that is due; a record is settled only by a clean close of it that ended well;
--- and each turn that is not cut starts what is owed at it.
-use Rattle.std.specs.Prelude.{◌≡◌, ◌≢◌, ◌⊎◌, ℕ, ◌-◌, ◌≤◌, false, List, [], ◌∷◌, ◌++◌, length, map, Some, slice_get}
-use Rattle.std.specs.List.{range_with_len, flat_map, AllPairs, Contains}
+-- The headline over one run: an open is attempted only for a datagram of the same turn that the rules grant and for which there is
+-- room, and at most once for each digest; a close only for a live record that is due and idle; a record is settled only where a
+-- clean close of it has ended well in the same turn; and each turn that is not cut starts what is owed at it.
+use Rattle.std.specs.Prelude.{◌≡◌, ◌≢◌, ◌⊎◌, ℕ, ◌+◌, ◌≤◌, false, IsTrue, List, [], ◌∷◌, ◌++◌, length, map, Option, Some, None}
+use Rattle.std.specs.List.{count_by, filter_map, flat_map, range_with_len, AllPairs, Contains}
+use Rattle.fk_base.specs.declared.purpose.Purpose.{Purpose}
 use Rattle.fk_base.specs.declared.purpose.Purpose.TheVariants.{Open, Close}
 use Rattle.fk_trace.specs.declared.change.OpenRecord.{OpenRecord}
 use Rattle.fk_trace.specs.declared.change.Change.{Change}
 use Rattle.fk_trace.specs.declared.change.Change.TheVariants.{Open as OpenChange}
-use Rattle.fk_trace.specs.Trace.{Item}
-use Rattle.fk_trace.specs.Ledger.{opens, live, seen, next_id, after}
-use Rattle.fk_trace.specs.Planned.{settlements}
-use Rattle.fk_trace.specs.Decision.{FeedTurn, Permit, answer}
+use Rattle.fk_trace.specs.Trace.{Item, Attempt, attempt_of, is_turn, close_attempted}
+use Rattle.fk_trace.specs.Ledger.{opens, dones, live, seen, next_id, after, IsLedger}
+use Rattle.fk_trace.specs.Idle.{is_idle}
+use Rattle.fk_trace.specs.Decision.{Permit, IsGranted, answer}
 use Rattle.fk_trace.specs.Decision.Answer.{Opens}
-use Rattle.fk_trace.specs.Headline.{turns_begun, opens_attempted, close_attempted, AreMadeBy, AttemptedIn, IsGranted}
-use Rattle.fk_run.specs.Place.{Place, entry}
-use Rattle.fk_run.specs.Turn.{TakenTurn, after_turns}
-use Rattle.fk_run.specs.Run.{Run, turns_of, trace_of, changes_of, cuts_turn}
+use Rattle.fk_trace.specs.Settled.{settled_in, settlements}
+use Rattle.fk_trace.specs.Attempts.{IsAttempt}
+use Rattle.fk_run.specs.Place.{Place, entry, behind, changed}
+use Rattle.fk_run.specs.Turn.{TakenTurn, IsDueIdle, WholeTurn, after_turn, after_turns}
+use Rattle.fk_run.specs.Run.{Run, trace_of, changes_of, cuts_turn}
 
--- the turn of the run that began last behind these items
-abbrev pub IsTurnAt : Run → List Item → FeedTurn → Type 0
-IsTurnAt run before turn = slice_get (turns_of run) (turns_begun before - 1) ≡ Some turn
+-- how many turns begin in these items
+abbrev pub turns_begun : List Item → ℕ
+turns_begun items = count_by (λ item. is_turn item.event) items
 
--- the open of this record is attempted with these words behind these items of the run: the turn that began last has brought the
--- datagram that was granted, and its record is among the run's changes
-pub record OpensByGrant (run : Run) (before : List Item) (id : ℕ) (words : List (List ℕ)) : Type 0 where
-  pub turn : FeedTurn
-  pub item : OpenRecord
-  pub earlier : List Change
-  pub later : List Change
-  pub taken : IsTurnAt run before turn
-  pub made : changes_of run ≡ earlier ++ OpenChange item ∷ later
-  pub by_grant : IsGranted run.rules (after run.ledger earlier) turn item words
-  pub numbered : item.id ≡ id
+-- behind these turns of the run stands this one
+pub record IsTurnOf (run : Run) (front : List TakenTurn) (taken : TakenTurn) : Type 0 where
+  pub later : List TakenTurn
+  pub placed : run.turns ≡ front ++ taken ∷ later
 
--- a close of this record is attempted with these words behind these items of the run: the record is live after the changes that
--- were made so far, its due is over at the turn that began last, and the words are those of its close
-pub record ClosesWhenDue (run : Run) (before : List Item) (id : ℕ) (words : List (List ℕ)) : Type 0 where
-  pub turn : FeedTurn
-  pub item : OpenRecord
-  pub earlier : List Change
-  pub later : List Change
-  pub taken : IsTurnAt run before turn
-  pub made : changes_of run ≡ earlier ++ later
-  pub so_far : AreMadeBy before earlier
-  pub lives : Contains (live (after run.ledger earlier)) item
-  pub due : item.due ≤ turn.moment
-  pub numbered : item.id ≡ id
-  pub closing : words ≡ item.close
+-- Behind these items of the run, this item stands in a turn: they are the items of the turns before it and the first of its own, and
+-- that turn is the last that has begun by then.
+pub record StandsInTurn (run : Run) (before : List Item) (item : Item) : Type 0 where
+  pub front : List TakenTurn
+  pub taken : TakenTurn
+  pub turn : IsTurnOf run front taken
+  pub items : List Item
+  pub rest : List Item
+  pub among : taken.items ≡ items ++ item ∷ rest
+  pub since : before ≡ flat_map (λ earlier. earlier.items) front ++ items
+  pub begun : turns_begun before ≡ length front + 1
 
--- The records of a run are numbered on from the ledger that it found, the open of each is attempted at most once (exactly once in
--- a run that is not cut short), and where no two records of that ledger have one digest, no two have one with the run's among
--- them.
+-- The open of this record is attempted with these words by this item behind these items of the run: its turn has brought the
+-- datagram that was granted, over the ledger with the settlements of that turn, and its record is the turn's last change.
+pub record OpensByGrant (run : Run) (before : List Item) (item : Item) (id : ℕ) (words : List (List ℕ)) : Type 0 where
+  pub at : StandsInTurn run before item
+  pub place : Place
+  pub reached : place ≡ after_turns (entry run.ledger) at.front
+  pub granted : OpenRecord
+  pub made : at.taken.changes ≡ settlements place.past at.items ++ OpenChange granted ∷ []
+  pub by_grant : IsGranted run.rules (after place.ledger (settlements place.past at.items)) at.taken.turn granted words
+  pub numbered : granted.id ≡ id
+
+-- the record whose open an attempt is
+abbrev pub opened_for : Purpose → Option ℕ
+opened_for (Open id) = Some id
+opened_for (Close id) = None
+
+abbrev pub opened_by_attempt : Option Attempt → Option ℕ
+opened_by_attempt None = None
+opened_by_attempt (Some attempt) = opened_for attempt.purpose
+
+-- the records whose open was attempted in these items: one for each attempt, failed ones too, in their order
+abbrev pub opens_attempted : List Item → List ℕ
+opens_attempted items = filter_map (λ item. opened_by_attempt (attempt_of item.event)) items
+
+-- the changes that a run has made with these items: a Done for each clean close that ended well among them, and a record for
+-- each open that was attempted
+pub record AreMadeBy (items : List Item) (changes : List Change) : Type 0 where
+  pub settled : dones changes ≡ settled_in [] items
+  pub recorded : map (λ item. item.id) (opens changes) ≡ opens_attempted items
+
+-- A close of this record is attempted with these words by this item behind these items of the run: all changes of its turn are made,
+-- the record is live after them, its due is over, and it is idle there; the words are those of its close. (Where the run found no
+-- ledger, so that a number may mean several records, nothing is said of idle.)
+pub record ClosesWhenDue (run : Run) (before : List Item) (item : Item) (id : ℕ) (words : List (List ℕ)) : Type 0 where
+  pub at : StandsInTurn run before item
+  pub place : Place
+  pub reached : place ≡ changed (behind at.taken.turn.moment (after_turns (entry run.ledger) at.front) at.items) at.taken.changes
+  pub so_far : AreMadeBy before (flat_map (λ earlier. earlier.changes) at.front ++ at.taken.changes)
+  pub closing : OpenRecord
+  pub lives : Contains (live place.ledger) closing
+  pub due : closing.due ≤ at.taken.turn.moment
+  pub idle : IsLedger run.ledger → IsTrue (is_idle place.past place.ends at.taken.turn.moment closing.id)
+  pub numbered : closing.id ≡ id
+  pub with_words : words ≡ closing.close
+
+-- The records of a run are numbered on from the ledger that it found, the open of each is attempted at most once (of all but the
+-- last exactly once, and of all in a run that is not cut short), and where no two records of that ledger have one digest, no two
+-- have one with the run's among them.
 pub record OpensOnce (run : Run) : Type 0 where
   pub unattempted : List ℕ
   pub attempted : opens_attempted (trace_of run) ++ unattempted ≡ map (λ item. item.id) (opens (changes_of run))
+  pub last : length unattempted ≤ 1
   pub whole : cuts_turn run.ending ≡ false → unattempted ≡ []
   pub numbered : map (λ item. item.id) (opens (changes_of run)) ≡ range_with_len (next_id run.ledger) (length (opens (changes_of run)))
   pub apart : AllPairs (λ a b. a ≢ b) (seen run.ledger) → AllPairs (λ a b. a ≢ b) (seen (after run.ledger (changes_of run)))
 
--- behind these turns stands this one, and it is not the last of a run that may be cut there
+-- this turn of the run is not cut: the run's ending cuts none, or others follow the turn, or it is a whole one
 pub record IsWholeTurnOf (run : Run) (front : List TakenTurn) (taken : TakenTurn) : Type 0 where
-  pub later : List TakenTurn
-  pub placed : run.turns ≡ front ++ taken ∷ later
-  pub uncut : (cuts_turn run.ending ≡ false) ⊎ (later ≢ [])
+  pub turn : IsTurnOf run front taken
+  pub uncut : (cuts_turn run.ending ≡ false) ⊎ ((turn.later ≢ []) ⊎ WholeTurn run.rules (after_turns (entry run.ledger) front) taken)
+
+-- an attempt for this purpose and with these words is among the items
+abbrev pub AttemptedIn : List Item → Purpose → List (List ℕ) → Type 0
+AttemptedIn items purpose words = (item : Item) × Contains items item × IsAttempt purpose words item.event
 
 -- Behind these turns of the run, this turn starts what is owed: the open of a datagram that is to be opened, over the ledger with
--- the settlements of this turn; and the close of each record that is then live and due and of which no close was attempted in this
--- run yet.
+-- the settlements of this turn; the close of each record that is then live and due and of which no close was attempted in this
+-- run yet; and the close of each record that is still due and idle at its end.
 pub record StartsWhatIsOwed (run : Run) (front : List TakenTurn) (taken : TakenTurn) : Type 0 where
   pub place : Place
   pub reached : place ≡ after_turns (entry run.ledger) front
@@ -75,4 +116,6 @@ pub record StartsWhatIsOwed (run : Run) (front : List TakenTurn) (taken : TakenT
       → AttemptedIn taken.items (Open item.id) permit.opening
   pub closed : (item : OpenRecord) → Contains (live (after place.ledger taken.changes)) item → item.due ≤ taken.turn.moment
       → close_attempted (flat_map (λ earlier. earlier.items) front) item.id ≡ false
+      → AttemptedIn taken.items (Close item.id) item.close
+  pub none_left : (item : OpenRecord) → IsDueIdle (after_turn place taken) taken.turn.moment item
       → AttemptedIn taken.items (Close item.id) item.close

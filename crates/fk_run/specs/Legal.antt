@@ -1,7 +1,8 @@
 -- Which runs the daemon and the trial may have.
-use Rattle.std.specs.Prelude.{◌≡◌, ◌⊎◌, ◌<◌, IsTrue, List, [], ◌∷◌}
+use Rattle.std.specs.Prelude.{◌≡◌, ◌⊎◌, ℕ, ◌<◌, not, IsTrue, List, [], ◌∷◌, Some}
 use Rattle.std.specs.List.{AllPairs, AllByRecursion}
-use Rattle.fk_trace.specs.Trace.{children, past_after}
+use Rattle.fk_trace.specs.Trace.{Item, Child, children, open_runs, past_after}
+use Rattle.fk_trace.specs.Idle.{child_numbered, is_clean}
 use Rattle.fk_trace.specs.Decision.{Rules}
 use Rattle.fk_run.specs.Place.{Place, entry}
 use Rattle.fk_run.specs.Turn.{TakenTurn, WholeTurn, CutTurn, after_turn}
@@ -20,3 +21,9 @@ pub record Legal (run : Run) : Type 0 where
   pub no_fault_before : AllByRecursion (λ item. item.faults ≡ run.faults) (trace_of run)
   -- the host numbers its children by rising numbers, so that a number means one child
   pub numbered : AllPairs (λ a b. a.number < b.number) (children (past_after [] (trace_of run)))
+
+-- Looking back from a place with this past at a child that began behind these items of the run: it is the child that is found by its
+-- number, and clean asks what ran where it began.
+pub record MeansChild (before : List Item) (child : Child) (past : List Item) : Type 0 where
+  pub found : child_numbered child.number past ≡ Some child
+  pub clean : (id : ℕ) → is_clean past child.number id ≡ not (open_runs (past_after [] before) id)

@@ -3,7 +3,7 @@ use Rattle.std.specs.Prelude.{ℕ, List, []}
 use Rattle.fk_trace.specs.declared.change.Change.{Change}
 use Rattle.fk_trace.specs.Trace.{Item, past_after}
 use Rattle.fk_trace.specs.Ledger.{after}
-use Rattle.fk_trace.specs.Legal.{ends_after}
+use Rattle.fk_trace.specs.Idle.{ends_after}
 
 pub record Place : Type 0 where
   -- the items of the run before the place, the latest first

@@ -3,8 +3,8 @@ use Rattle.std.specs.Prelude.{◌≡◌, false, List, [], ◌∷◌, ◌++◌}
 use Rattle.std.specs.List.{flat_map}
 use Rattle.fk_trace.specs.declared.change.Change.{Change}
 use Rattle.fk_trace.specs.Ledger.{after}
-use Rattle.fk_trace.specs.Decision.{Rules, answer}
-use Rattle.fk_trace.specs.Planned.{settlements, recorded_by}
+use Rattle.fk_trace.specs.Decision.{Rules, answer, recorded_by}
+use Rattle.fk_trace.specs.Settled.{settlements}
 use Rattle.fk_run.specs.Place.{Place, entry}
 use Rattle.fk_run.specs.Turn.{TakenTurn, after_turn}
 use Rattle.fk_run.specs.Run.{Run, changes_of, changes_by_turn, cuts_turn}

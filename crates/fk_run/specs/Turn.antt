@@ -8,9 +8,9 @@ use Rattle.fk_trace.specs.Trace.{Item}
 use Rattle.fk_trace.specs.Trace.Event.{Turn}
 use Rattle.fk_trace.specs.Ledger.{live, after}
 use Rattle.fk_trace.specs.Idle.{is_idle}
-use Rattle.fk_trace.specs.Decision.{FeedTurn, Rules, answer}
-use Rattle.fk_trace.specs.Planned.{settlements, recorded_by}
-use Rattle.fk_trace.specs.Legal.{PollsEachOnce, IsAttempt, AttemptsThatOpen, Precedes, IsNoAttempt, IsNoPoll}
+use Rattle.fk_trace.specs.Decision.{FeedTurn, Rules, answer, recorded_by}
+use Rattle.fk_trace.specs.Settled.{settlements}
+use Rattle.fk_trace.specs.Attempts.{PollsEachOnce, IsAttempt, AttemptsThatOpen, Precedes, IsNoAttempt, IsNoPoll}
 use Rattle.fk_run.specs.Place.{Place, behind, changed}
 
 -- a turn that was taken

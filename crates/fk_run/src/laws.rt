@@ -1,27 +1,29 @@
 ghost use Rattle.std.specs.Prelude.{◌≡◌, ℕ, List, [], ◌∷◌, ◌++◌};
-ghost use Rattle.std.specs.List.{flat_map, Contains};
+ghost use Rattle.std.specs.List.{Contains};
 ghost use Rattle.fk_base.specs.declared.purpose.Purpose.TheVariants.{Open, Close};
-ghost use Rattle.fk_trace.specs.Trace.{Item, past_after};
+ghost use Rattle.fk_trace.specs.Trace.{Item, Child, past_after};
+ghost use Rattle.fk_trace.specs.Trace.Event.{Began};
 ghost use Rattle.fk_trace.specs.Ledger.{dones, after, IsLedger};
-ghost use Rattle.fk_trace.specs.Legal.{IsAttempt};
-ghost use Rattle.fk_trace.specs.Headline.{EndedCleanly};
+ghost use Rattle.fk_trace.specs.Settled.{EndedCleanly};
+ghost use Rattle.fk_trace.specs.Attempts.{IsAttempt};
 ghost use Rattle.fk_run.specs.Place.{entry};
-ghost use Rattle.fk_run.specs.Turn.{TakenTurn};
-ghost use Rattle.fk_run.specs.Run.{Run, trace_of, changes_of, changes_by_turn};
-ghost use Rattle.fk_run.specs.Legal.{Legal};
+ghost use Rattle.fk_run.specs.Turn.{TakenTurn, after_turns};
+ghost use Rattle.fk_run.specs.Run.{Run, trace_of, changes_of};
+ghost use Rattle.fk_run.specs.Legal.{Legal, MeansChild};
 ghost use Rattle.fk_run.specs.Planned.{MakesWhatIsPlanned};
-ghost use Rattle.fk_run.specs.Headline.{OpensByGrant, OpensOnce, ClosesWhenDue, IsWholeTurnOf, StartsWhatIsOwed};
+ghost use Rattle.fk_run.specs.Headline.{OpensByGrant, OpensOnce, ClosesWhenDue, IsTurnOf, IsWholeTurnOf, StartsWhatIsOwed};
 
 /// Every legal run keeps the headline: an open is attempted only for a granted datagram, and at most once for each digest; a
-/// close only for a live record that is due; only a clean close that ended well settles a record; and each turn that is not cut
-/// short starts what is owed at it.
+/// close only for a live record that is due and idle; only a clean close that ended well in the same turn settles a record; and each
+/// turn that is not cut short starts what is owed at it.
 pub fn legal_runs_keep_the_headline()
     ensures opens { (run : Run) → Legal run → (before : List Item) (item : Item) (later : List Item) (id : ℕ) (words : List (List ℕ))
-        → trace_of run ≡ before ++ item ∷ later → IsAttempt (Open id) words item.event → OpensByGrant run before id words }
+        → trace_of run ≡ before ++ item ∷ later → IsAttempt (Open id) words item.event → OpensByGrant run before item id words }
     ensures once { (run : Run) → Legal run → OpensOnce run }
     ensures closes { (run : Run) → Legal run → (before : List Item) (item : Item) (later : List Item) (id : ℕ) (words : List (List ℕ))
-        → trace_of run ≡ before ++ item ∷ later → IsAttempt (Close id) words item.event → ClosesWhenDue run before id words }
-    ensures settles { (run : Run) → Legal run → (id : ℕ) → Contains (dones (changes_of run)) id → EndedCleanly (trace_of run) id }
+        → trace_of run ≡ before ++ item ∷ later → IsAttempt (Close id) words item.event → ClosesWhenDue run before item id words }
+    ensures settles { (run : Run) → Legal run → (front : List TakenTurn) (taken : TakenTurn) → IsTurnOf run front taken → (id : ℕ)
+        → Contains (dones taken.changes) id → EndedCleanly (after_turns (entry run.ledger) front).past taken.items id }
     ensures starts { (run : Run) → Legal run → (front : List TakenTurn) (taken : TakenTurn) → IsWholeTurnOf run front taken
         → StartsWhatIsOwed run front taken }
 {}
@@ -36,4 +38,12 @@ pub fn legal_runs_make_what_is_planned()
 /// that is live before it.
 pub fn legal_runs_leave_a_ledger()
     ensures { (run : Run) → Legal run → IsLedger run.ledger → IsLedger (after run.ledger (changes_of run)) }
+{}
+
+/// In a legal run a number means one child, from its beginning on: the end of a child and the test whether a close was clean speak
+/// of the same one.
+pub fn legal_runs_tell_children_apart()
+    ensures { (run : Run) → Legal run → (before between later : List Item) (item : Item) (child : Child) (words : List (List ℕ))
+        → trace_of run ≡ before ++ item ∷ (between ++ later) → item.event ≡ Began child.number child.purpose words
+        → MeansChild before child (past_after [] (before ++ item ∷ between)) }
 {}

@@ -13,5 +13,6 @@ mod limits;
 
 pub use laws::{
     legal_runs_keep_the_headline, legal_runs_leave_a_ledger, legal_runs_make_what_is_planned,
+    legal_runs_tell_children_apart,
 };
 pub use limits::Limits;

@@ -5,10 +5,9 @@ use Rattle.std.specs.List.{find, Contains}
 use Rattle.std.proofs.lemmas.List.Elements.{Contains-append_cases}
 use Rattle.std.proofs.lemmas.Bool.{false_from_ne_true}
 use Rattle.std.proofs.Math.Bool.{and-false}
-use Rattle.fk_trace.specs.Trace.{Event, Item, Child, children, begun_by, running, open_runs, close_runs, is_close_of, is_close_attempt_of, past_after}
+use Rattle.fk_trace.specs.Trace.{Event, Item, Child, children, begun_by, running, open_runs, close_runs, is_close_of, is_close_attempt_of, close_attempted, past_after}
 use Rattle.fk_trace.specs.Trace.Event.{Turn, Began, StartFailed, Ended, Runs, PollFailed}
 use Rattle.fk_trace.specs.Idle.{End, child_numbered, is_close_child, moments_before, close_end, or_else, last_close, ended_well, rests, is_idle}
-use Rattle.fk_trace.specs.Headline.{close_attempted}
 use Rattle.fk_trace.proofs.Lists.{Contains-head, Contains-tail, Contains-cases, list_any-at}
 use Rattle.fk_trace.proofs.Running.{running-children}
 

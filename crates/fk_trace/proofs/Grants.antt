@@ -9,11 +9,10 @@ use Rattle.fk_trace.specs.declared.change.Change.{Change}
 use Rattle.fk_trace.specs.declared.refusal.LogWhy.{LogWhy}
 use Rattle.fk_trace.specs.declared.refusal.LogWhy.TheVariants.{Replay, Full}
 use Rattle.fk_trace.specs.Ledger.{seen, is_seen}
-use Rattle.fk_trace.specs.Decision.{Input, FeedTurn, Permit, Verdict, Rules, Answer, record_of, answer, answer_by, answer_formed, answer_to}
+use Rattle.fk_trace.specs.Decision.{Input, FeedTurn, Permit, Verdict, Rules, Answer, IsGranted, record_of, answer, answer_by, answer_formed, answer_to}
 use Rattle.fk_trace.specs.Decision.Input.{Quiet, Datagram}
 use Rattle.fk_trace.specs.Decision.Verdict.{Granted, Refused}
 use Rattle.fk_trace.specs.Decision.Answer.{Refuses, Opens}
-use Rattle.fk_trace.specs.Headline.{IsGranted}
 use Rattle.fk_trace.proofs.Lists.{list_any-none}
 
 -- what isn't seen is not among the digests
@@ -24,8 +23,8 @@ fresh-unseen digest ledger unseen m =
     cc
 
 module _ (item : OpenRecord) (permit : Permit) where
-  opens_with_room : (room : Bool) (made : OpenRecord) (given : Permit) → cond room (Opens made given) (Refuses Full) ≡ Opens item permit → (item ≡ made) × (given ≡ permit)
-  opens_with_room true made given e = (cc, cc)
+  opens_with_room : (room : Bool) (made : OpenRecord) (given : Permit) → cond room (Opens made given) (Refuses Full) ≡ Opens item permit → (item ≡ made) × (given ≡ permit) × (room ≡ true)
+  opens_with_room true made given e = (cc, cc, refl)
   opens_with_room false made given e = absurd cc
 
   opens_unseen : (known : Bool) (other : Answer) → cond known (Refuses Replay) other ≡ Opens item permit → (known ≡ false) × (other ≡ Opens item permit)
@@ -33,20 +32,21 @@ module _ (item : OpenRecord) (permit : Permit) where
   opens_unseen false other e = (refl, e)
 
   opens_granted : (rules : Rules) (ledger : List Change) (moment : ℕ) (datagram : List ℕ) (verdict : Verdict) → answer_by rules ledger moment datagram verdict ≡ Opens item permit
-      → (verdict ≡ Granted permit) × (item ≡ record_of rules ledger moment datagram permit)
+      → (verdict ≡ Granted permit) × (item ≡ record_of rules ledger moment datagram permit) × (rules.has_room ledger item ≡ true)
   opens_granted rules ledger moment datagram (Granted given) e =
       let made : OpenRecord = record_of rules ledger moment datagram given in
       let both = opens_with_room (rules.has_room ledger made) made given e in
-      (ap Granted both.1, both.0 ∙ ap (record_of rules ledger moment datagram) both.1)
+      (ap Granted both.1, both.0 ∙ ap (record_of rules ledger moment datagram) both.1, ap (rules.has_room ledger) both.0 ∙ both.2)
   opens_granted rules ledger moment datagram (Refused why) e = absurd cc
 
   opens_formed : (rules : Rules) (ledger : List Change) (moment : ℕ) (source : Ip4) (datagram : List ℕ) (shape : Option LogWhy) → answer_formed rules ledger moment source datagram shape ≡ Opens item permit
       → (shape ≡ None) × (is_seen (rules.digest datagram) ledger ≡ false) × (rules.admit moment source datagram ≡ Granted permit) × (item ≡ record_of rules ledger moment datagram permit)
+      × (rules.has_room ledger item ≡ true)
   opens_formed rules ledger moment source datagram (Some why) e = absurd cc
   opens_formed rules ledger moment source datagram None e =
       let unseen = opens_unseen (is_seen (rules.digest datagram) ledger) (answer_by rules ledger moment datagram (rules.admit moment source datagram)) e in
       let both = opens_granted rules ledger moment datagram (rules.admit moment source datagram) unseen.1 in
-      (refl, unseen.0, both.0, both.1)
+      (refl, unseen.0, both.0, both.1, both.2)
 
   opens_brought : (rules : Rules) (ledger : List Change) (moment : ℕ) (input : Input) → answer_to rules ledger moment input ≡ Opens item permit
       → (source : Ip4) × (datagram : List ℕ) × (input ≡ Datagram source datagram) × (answer_formed rules ledger moment source datagram (rules.misshapen datagram) ≡ Opens item permit)
@@ -67,5 +67,6 @@ module _ (item : OpenRecord) (permit : Permit) where
         fresh = fresh-unseen (rules.digest brought.1) ledger formed.1;
         granted = formed.2;
         recorded = formed.3;
+        room = formed.4;
         opening = refl;
       }

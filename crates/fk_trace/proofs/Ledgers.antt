@@ -1,5 +1,5 @@
--- What one more change does to a ledger.
-use Rattle.std.proofs.Common.{◌≡◌, ℕ, ◌+◌, ◌<◌, Bool, true, false, not, ◌||◌, cond, eqb, List, [], ◌∷◌, ◌++◌, map, refl, ap, ◌∙◌, append-nil, arith}
+-- What one more change does to a ledger, and what more changes do.
+use Rattle.std.proofs.Common.{◌≡◌, ℕ, ◌+◌, ◌<◌, Bool, true, false, not, ◌||◌, cond, eqb, List, [], ◌∷◌, ◌++◌, length, map, refl, ap, ◌∙◌, append-nil, length-append, arith}
 use Rattle.std.specs.List.{filter, list_any, All}
 use Rattle.std.proofs.lemmas.List.{length_push, map-append}
 use Rattle.std.proofs.lemmas.List.Elements.{filter_map-append, filter-append, All-head, All-tail}
@@ -9,6 +9,8 @@ use Rattle.fk_trace.specs.declared.change.OpenRecord.{OpenRecord}
 use Rattle.fk_trace.specs.declared.change.Change.{Change}
 use Rattle.fk_trace.specs.declared.change.Change.TheVariants.{Open, Done}
 use Rattle.fk_trace.specs.Ledger.{opened_by, closed_by, opens, dones, live, seen, next_id}
+use Rattle.fk_trace.specs.Decision.{Answer, recorded_by}
+use Rattle.fk_trace.specs.Decision.Answer.{Nothing, Refuses, Opens}
 
 -- two filters, one after the other
 pub filter-filter : {X : Type 0} (p q r : X → Bool) → ((x : X) → r x ≡ (p x || q x)) → (xs : List X) → filter (λ x. not (r x)) xs ≡ filter (λ x. not (q x)) (filter (λ x. not (p x)) xs)
@@ -66,3 +68,33 @@ none_at_bound (id ∷ ids) n below =
     let here : id < n = All-head (λ i. i < n) id ids below in
     let differs : eqb id n ≡ false = grind (arith, nat_tests) in
     rw differs (none_at_bound ids n (All-tail (λ i. i < n) id ids below))
+
+-- Dones open nothing
+pub opens-dones : (ids : List ℕ) → opens (map Done ids) ≡ []
+opens-dones [] = refl
+opens-dones (id ∷ ids) = opens-dones ids
+
+pub dones-dones : (ids : List ℕ) → dones (map Done ids) ≡ ids
+dones-dones [] = refl
+dones-dones (id ∷ ids) = ap (λ others. id ∷ others) (dones-dones ids)
+
+pub dones-recorded : (a : Answer) → dones (recorded_by a) ≡ []
+dones-recorded Nothing = refl
+dones-recorded (Refuses why) = refl
+dones-recorded (Opens item permit) = refl
+
+pub opens-append : (a b : List Change) → opens (a ++ b) ≡ opens a ++ opens b
+opens-append a b = filter_map-append opened_by a b
+
+pub dones-append : (a b : List Change) → dones (a ++ b) ≡ dones a ++ dones b
+dones-append a b = filter_map-append closed_by a b
+
+pub seen-append_none : (ledger changes : List Change) → opens changes ≡ [] → seen (ledger ++ changes) ≡ seen ledger
+seen-append_none ledger changes none =
+    ap (map (λ (item : OpenRecord). item.digest.0)) (opens-append ledger changes ∙ ap (λ items. opens ledger ++ items) none ∙ append-nil (opens ledger))
+
+pub next_id-append : (ledger changes : List Change) → next_id (ledger ++ changes) ≡ next_id ledger + length (opens changes)
+next_id-append ledger changes =
+    let all = ap length (opens-append ledger changes) in
+    let counted = length-append (opens ledger) (opens changes) in
+    omega arith

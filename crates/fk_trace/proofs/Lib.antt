@@ -4,9 +4,4 @@ pub mod Ledgers
 pub mod Splits
 pub mod Grants
 pub mod Settled
-pub mod Turns
-pub mod Runs
 pub mod FirstCloses
-pub mod TurnParts
-pub mod Starts
-pub mod Owed

@@ -9,26 +9,15 @@ use Rattle.fk_base.specs.declared.purpose.Purpose.TheVariants.{Open, Close}
 use Rattle.fk_trace.specs.Trace.{Event, Item, Child, children, past_after}
 use Rattle.fk_trace.specs.Trace.Event.{Turn, Began, StartFailed, Ended, Runs, PollFailed}
 use Rattle.fk_trace.specs.Idle.{child_numbered, is_clean}
-use Rattle.fk_trace.specs.Planned.{settled_by, settled_by_child, settled_at, settled_in}
+use Rattle.fk_trace.specs.Settled.{settled_by, settled_by_child, settled_at, settled_in, EndedCleanly}
 use Rattle.fk_trace.proofs.Lists.{Contains-cases}
-
--- in these items, behind this past, a clean close of the record ended well
-pub record EndsCleanly (past items : List Item) (id : ℕ) : Type 0 where
-  pub before : List Item
-  pub ended : Item
-  pub after : List Item
-  pub number : ℕ
-  pub placed : items ≡ before ++ ended ∷ after
-  pub well : ended.event ≡ Ended number true
-  pub closes : child_numbered number (past_after past before) ≡ Some (record { number = number; purpose = Close id })
-  pub clean : IsTrue (is_clean (past_after past before) number id)
 
 pub past_after-append : (past a b : List Item) → past_after past (a ++ b) ≡ past_after (past_after past a) b
 past_after-append past [] b = refl
 past_after-append past (item ∷ a) b = past_after-append (item ∷ past) a b
 
 -- it ended in what begins with these items
-pub ends-longer : (past items more : List Item) (id : ℕ) → EndsCleanly past items id → EndsCleanly past (items ++ more) id
+pub ends-longer : (past items more : List Item) (id : ℕ) → EndedCleanly past items id → EndedCleanly past (items ++ more) id
 ends-longer past items more id e = record {
   before = e.before;
   ended = e.ended;
@@ -41,7 +30,7 @@ ends-longer past items more id e = record {
 }
 
 -- it ended in what ends with these items
-pub ends-later : (past front items : List Item) (id : ℕ) → EndsCleanly (past_after past front) items id → EndsCleanly past (front ++ items) id
+pub ends-later : (past front items : List Item) (id : ℕ) → EndedCleanly (past_after past front) items id → EndedCleanly past (front ++ items) id
 ends-later past front items id e =
     let same : past_after (past_after past front) e.before ≡ past_after past (front ++ e.before) = sym (past_after-append past front e.before) in
     record {
@@ -112,15 +101,15 @@ settled-event past (Runs number) id e = absurd cc
 settled-event past (PollFailed number) id e = absurd cc
 
 -- what is settled in these items was closed there
-pub ends-settled : (past items : List Item) (id : ℕ) → Contains (settled_in past items) id → EndsCleanly past items id
+pub ends-settled : (past items : List Item) (id : ℕ) → Contains (settled_in past items) id → EndedCleanly past items id
 ends-settled past [] id m = absurd (omega (arith, m.1))
 ends-settled past (item ∷ items) id m =
-    let later : Contains (settled_in (item ∷ past) items) id → EndsCleanly past (item ∷ items) id =
+    let later : Contains (settled_in (item ∷ past) items) id → EndedCleanly past (item ∷ items) id =
     λ n. ends-later past (item ∷ []) items id (ends-settled (item ∷ past) items id n) in
-    let here : settled_at past item.event ≡ Some id → EndsCleanly past (item ∷ items) id =
+    let here : settled_at past item.event ≡ Some id → EndedCleanly past (item ∷ items) id =
     λ e. let at = settled-event past item.event id e in
     record { before = []; ended = item; after = items; number = at.0; placed = refl; well = at.1; closes = at.2; clean = at.3 } in
-    (elim (settled_at past item.event) as (λ (o : Option ℕ). settled_at past item.event ≡ o → Contains (cons_option o (settled_in (item ∷ past) items)) id → EndsCleanly past (item ∷ items) id) [
+    (elim (settled_at past item.event) as (λ (o : Option ℕ). settled_at past item.event ≡ o → Contains (cons_option o (settled_in (item ∷ past) items)) id → EndedCleanly past (item ∷ items) id) [
       | None ↦ λ e n. later n
       | Some other ↦ λ e n. elim (Contains-cases other (settled_in (item ∷ past) items) id n) [
         | inl same ↦ here (e ∙ ap Some same)

@@ -2,6 +2,7 @@
 use Rattle.std.proofs.Common.{◌≡◌, ℕ, ◌+◌, ◌<◌, zero, suc, List, [], ◌∷◌, ◌++◌, length, refl, ap, subst, arith, ◌⊎◌, inl, inr, length-append}
 use Rattle.std.specs.List.{AllPairs, AllZip, AllByRecursion, Contains, range_with_len}
 use Rattle.std.proofs.lemmas.List.{get_or_append_left}
+use Rattle.std.proofs.Math.Seq.{get_or-append_seam}
 use Rattle.std.proofs.lemmas.List.Elements.{Contains-append_right, All-from_recursion, All-contains}
 use Rattle.fk_trace.proofs.Lists.{Contains-head, Contains-tail, Contains-cases}
 
@@ -39,6 +40,14 @@ pub recursion-behind : {X : Type 0} (P : X → Type 0) (xs ys : List X) → AllB
 recursion-behind P [] ys h = h
 recursion-behind P (x ∷ xs) ys h = recursion-behind P xs ys h.1
 
+pub recursion-front : {X : Type 0} (P : X → Type 0) (xs ys : List X) → AllByRecursion P (xs ++ ys) → AllByRecursion P xs
+recursion-front P [] ys h = tt
+recursion-front P (x ∷ xs) ys h = (h.0, recursion-front P xs ys h.1)
+
+pub recursion-joined : {X : Type 0} (P : X → Type 0) (xs ys : List X) → AllByRecursion P xs → AllByRecursion P ys → AllByRecursion P (xs ++ ys)
+recursion-joined P [] ys h g = g
+recursion-joined P (x ∷ xs) ys h g = (h.0, recursion-joined P xs ys h.1 g)
+
 module _ {A B : Type 0} (R : A → B → Type 0) where
   -- what follows of the second elements
   pub second_of_zip : (P : B → Type 0) → ((a : A) (b : B) → R a b → P b) → (xs : List A) (ys : List B) → AllZip R xs ys → AllByRecursion P ys
@@ -58,6 +67,16 @@ module _ {A B : Type 0} (R : A → B → Type 0) where
         | inr n ↦ let ih = first_of_zip xs ys b z.1 n in (ih.0, Contains-tail a xs ih.0 ih.1, ih.2)
       ]
 
+  -- where a second element stands, so does a first one
+  pub split_zip : (xs : List A) (front : List B) (b : B) (rest : List B) → AllZip R xs (front ++ b ∷ rest)
+      → (before : List A) × (a : A) × (after : List A) × (xs ≡ before ++ a ∷ after) × AllZip R before front × R a b
+  split_zip [] [] b rest z = absurd z
+  split_zip [] (c ∷ front) b rest z = absurd z
+  split_zip (a ∷ xs) [] b rest z = ([], a, xs, refl, tt, z.0)
+  split_zip (a ∷ xs) (c ∷ front) b rest z =
+      let ih = split_zip xs front b rest z.1 in
+      (a ∷ ih.0, ih.1, ih.2, ap (λ others. a ∷ others) ih.3, (z.0, ih.4), ih.5)
+
   -- the second element at the place of a first one
   pub second_at_zip : (xs : List A) (ys : List B) (a : A) → AllZip R xs ys → Contains xs a → (b : B) × Contains ys b × R a b
   second_at_zip [] ys a z m = absurd (omega (arith, m.1))
@@ -75,6 +94,12 @@ AllPairs-front R xs ys h = λ i j d l k.
     let all : j < length (xs ++ ys) = omega (arith, length-append xs ys) in
     let held = h i j d l all in
     rw (get_or_append_left xs ys d i low, get_or_append_left xs ys d j k) at held
+
+-- and of an element and each before it
+pub pair-before : {X : Type 0} (R : X → X → Type 0) (xs : List X) (y : X) (ys : List X) (x : X) → AllPairs R (xs ++ y ∷ ys) → Contains xs x → R x y
+pair-before R xs y ys x h m =
+    let held = h m.0 (length xs) x m.1 (omega (arith, length-append xs (y ∷ ys))) in
+    rw (get_or_append_left xs (y ∷ ys) x m.0 m.1, m.2, get_or-append_seam xs y ys x) at held
 
 -- two ranges, one on from the other, are one
 pub range-joined : (a m n k b : ℕ) → m + n ≡ k → a + m ≡ b → range_with_len a m ++ range_with_len b n ≡ range_with_len a k

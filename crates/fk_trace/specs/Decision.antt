@@ -1,13 +1,15 @@
 -- What a turn's datagram is answered: nothing where there is none, a refusal, or a record whose open is started. What is
 -- granted is an argument, so that one definition serves every stage of the rules.
-use Rattle.std.specs.Prelude.{ℕ, Bool, ◌+◌, List, Option, Some, None, if◌then◌else◌}
+use Rattle.std.specs.Prelude.{◌≡◌, ℕ, Bool, ◌+◌, IsTrue, List, [], ◌∷◌, Option, Some, None, if◌then◌else◌}
+use Rattle.std.specs.List.{Contains}
 use Rattle.fk_base.specs.declared.address.Ip4.{Ip4}
 use Rattle.fk_base.specs.declared.pair.Pair.{Pair}
 use Rattle.fk_trace.specs.declared.change.OpenRecord.{OpenRecord}
 use Rattle.fk_trace.specs.declared.change.Change.{Change}
+use Rattle.fk_trace.specs.declared.change.Change.TheVariants.{Open as OpenChange}
 use Rattle.fk_trace.specs.declared.refusal.LogWhy.{LogWhy}
 use Rattle.fk_trace.specs.declared.refusal.LogWhy.TheVariants.{Replay, Full}
-use Rattle.fk_trace.specs.Ledger.{next_id, is_seen}
+use Rattle.fk_trace.specs.Ledger.{seen, is_seen, next_id}
 
 -- what a turn was taken for: nothing but the time, or a datagram with its source
 pub data Input : Type 0 where
@@ -89,3 +91,23 @@ answer_to rules ledger moment (Datagram source datagram) =
 -- rules admit, and last the room
 abbrev pub answer : Rules → List Change → FeedTurn → Answer
 answer rules ledger turn = answer_to rules ledger turn.moment turn.input
+
+-- the change that an answer makes
+abbrev pub recorded_by : Answer → List Change
+recorded_by Nothing = []
+recorded_by (Refuses why) = []
+recorded_by (Opens item permit) = OpenChange item ∷ []
+
+-- the turn has a datagram of the right shape that the rules grant, whose digest the ledger has not seen and for whose record it has
+-- room; this is the record, and these are the words of its open
+pub record IsGranted (rules : Rules) (ledger : List Change) (turn : FeedTurn) (item : OpenRecord) (words : List (List ℕ)) : Type 0 where
+  pub source : Ip4
+  pub datagram : List ℕ
+  pub permit : Permit
+  pub brought : turn.input ≡ Datagram source datagram
+  pub formed : rules.misshapen datagram ≡ None
+  pub fresh : Contains (seen ledger) (rules.digest datagram) → ⊥
+  pub granted : rules.admit turn.moment source datagram ≡ Granted permit
+  pub recorded : item ≡ record_of rules ledger turn.moment datagram permit
+  pub room : IsTrue (rules.has_room ledger item)
+  pub opening : words ≡ permit.opening

@@ -35,6 +35,19 @@ moments_before (Ended number good) ends = other_moments ends
 moments_before (Runs number) ends = ends
 moments_before (PollFailed number) ends = ends
 
+-- the moments of the ends behind these items, all of one turn with this moment
+abbrev pub moments_with : ℕ → Event → List ℕ → List ℕ
+moments_with moment (Turn number) ends = ends
+moments_with moment (Began number purpose words) ends = ends
+moments_with moment (StartFailed purpose words) ends = ends
+moments_with moment (Ended number good) ends = moment ∷ ends
+moments_with moment (Runs number) ends = ends
+moments_with moment (PollFailed number) ends = ends
+
+abbrev pub ends_after : ℕ → List ℕ → List Item → List ℕ
+ends_after moment ends [] = ends
+ends_after moment ends (item ∷ items) = ends_after moment (moments_with moment item.event ends) items
+
 -- the end of a close of the record, if the event is one
 abbrev pub close_end : ℕ → Event → List Item → List ℕ → Option End
 close_end id (Turn number) past ends = None

@@ -2,7 +2,6 @@ pub mod Trace
 pub mod Ledger
 pub mod Idle
 pub mod Decision
-pub mod Planned
-pub mod Legal
-pub mod Headline
+pub mod Settled
+pub mod Attempts
 pub mod Orderly

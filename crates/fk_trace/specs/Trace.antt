@@ -113,3 +113,7 @@ is_close_attempt_of id (PollFailed number) = false
 abbrev pub close_tried : List Item → ℕ → Bool
 close_tried [] id = false
 close_tried (item ∷ past) id = if is_turn item.event then false else (is_close_attempt_of id item.event || close_tried past id)
+
+-- a close of the record was attempted in these items
+abbrev pub close_attempted : List Item → ℕ → Bool
+close_attempted items id = list_any (λ item. is_close_attempt_of id item.event) items

@@ -1,17 +1,14 @@
-//! What a run of the daemon did, in words that every layer shares: the items of the host's trace, the ledger of changes,
-//! when a record is idle, and which traces are legal.
+//! What a turn of the daemon did, in words that every layer shares: the items of the host's trace, the ledger of changes, when a
+//! record is idle, what a datagram is answered, and which polls and attempts a turn is made of.
 //!
-//! Nothing runs here. The code is the types that a ledger and a refusal are made of, and one law as the contract of an empty
-//! function; the rest is definitions, in `specs/`.
+//! Nothing runs here. The code is the types that a ledger and a refusal are made of; the rest is definitions, in `specs/`, and
+//! lemmas on them, in `proofs/`. What a whole run is, and what follows for whoever is let in and shut out, is said in `fk_run`.
 //!
-//! Start at `specs/Trace.antt` and read on in the order of `specs/Lib.antt`; `specs/Legal.antt` is what the daemon and the
-//! trial are held to, and `specs/Headline.antt` what follows for whoever is let in and shut out.
+//! Start at `specs/Trace.antt` and read on in the order of `specs/Lib.antt`.
 #![tactic(auto)]
 
 mod change;
-mod laws;
 mod refusal;
 
 pub use change::{Change, OpenRecord};
-pub use laws::legal_runs_keep_the_headline;
 pub use refusal::LogWhy;

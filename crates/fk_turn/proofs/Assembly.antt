@@ -1,22 +1,19 @@
 -- A turn is served by its four parts, whole or cut.
 use Rattle.std.proofs.Common.{◌≡◌, ℕ, ◌≤◌, ◌||◌, ◌&&◌, ◌==◌, Bool, true, false, not, cond, nat_le, List, [], ◌∷◌, ◌++◌, map, Result, Ok, Err, inl, inr, refl, sym, ap, subst, ◌∙◌, append_assoc, append-nil, arith}
 use Rattle.std.specs.Prelude.{IsErrAnd}
-use Rattle.std.specs.List.{AllByRecursion, AllZip, Contains}
-use Rattle.std.specs.List.{filter, list_any}
+use Rattle.std.specs.List.{AllByRecursion, AllZip, Contains, filter, list_any}
 use Rattle.std.proofs.lemmas.Bool.{leb-true}
 use Rattle.std.proofs.lemmas.List.{map-append}
 use Rattle.std.proofs.lemmas.List.Elements.{Contains-append_left}
 use Rattle.fk_trace.specs.declared.change.OpenRecord.{OpenRecord}
 use Rattle.fk_trace.specs.declared.change.Change.{Change}
 use Rattle.fk_trace.specs.declared.change.Change.TheVariants.{Open as OpenChange, Done}
-use Rattle.fk_trace.specs.Trace.{Event, Item, Child, running, still_running, begun_by, is_turn, is_close_attempt_of, close_tried, past_after}
+use Rattle.fk_trace.specs.Trace.{Event, Item, Child, running, still_running, begun_by, is_turn, is_close_attempt_of, close_tried, past_after, close_attempted}
 use Rattle.fk_trace.specs.Ledger.{live, seen, after, opens, dones, IsLedger}
-use Rattle.fk_trace.specs.Decision.{FeedTurn, Answer, answer}
-use Rattle.fk_trace.specs.Planned.{recorded_by}
-use Rattle.fk_trace.specs.Legal.{IsPollOf, ends_after}
-use Rattle.fk_trace.specs.Headline.{close_attempted}
-use Rattle.fk_trace.specs.Idle.{is_idle}
-use Rattle.fk_trace.proofs.Turns.{seen-append_none}
+use Rattle.fk_trace.specs.Decision.{FeedTurn, Answer, answer, recorded_by}
+use Rattle.fk_trace.specs.Attempts.{IsPollOf}
+use Rattle.fk_trace.specs.Idle.{ends_after, is_idle}
+use Rattle.fk_trace.proofs.Ledgers.{seen-append_none}
 use Rattle.fk_trace.proofs.Settled.{past_after-append}
 use Rattle.fk_trace.proofs.Lists.{Contains-head, Contains-tail, Contains-cases, Contains-filter, Contains-unmap}
 use Rattle.fk_run.specs.Place.{Place, behind, changed}

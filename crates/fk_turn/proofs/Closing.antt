@@ -12,7 +12,7 @@ use Rattle.fk_trace.specs.declared.change.Change.{Change}
 use Rattle.fk_trace.specs.Trace.{Event, Item, attempt_of, is_turn, is_close_attempt_of, close_tried}
 use Rattle.fk_trace.specs.Trace.Event.{Turn, Began, StartFailed, Ended, Runs, PollFailed}
 use Rattle.fk_trace.specs.Ledger.{live, IsLedger}
-use Rattle.fk_trace.specs.Legal.{IsAttempt}
+use Rattle.fk_trace.specs.Attempts.{IsAttempt}
 use Rattle.fk_trace.proofs.Lists.{Contains-head, Contains-tail, Contains-cases}
 use Rattle.fk_run.specs.Place.{Place, behind}
 use Rattle.fk_run.proofs.Ledgers.{live-one}

@@ -3,13 +3,13 @@ use Rattle.std.proofs.Common.{◌≡◌, ℕ, Bool, true, false, ◌||◌, List,
 use Rattle.std.specs.List.{AllByRecursion, AllZip, cons_option}
 use Rattle.fk_base.specs.declared.purpose.Purpose.{Purpose}
 use Rattle.fk_base.specs.declared.purpose.Purpose.TheVariants.{Open}
-use Rattle.fk_trace.specs.Trace.{Event, Item, Child, attempt_of, is_turn, is_close_attempt_of, close_tried, past_after}
+use Rattle.fk_trace.specs.Trace.{Event, Item, Child, attempt_of, is_turn, is_close_attempt_of, close_tried, past_after, close_attempted}
 use Rattle.fk_trace.specs.Trace.Event.{Turn, Began, StartFailed, Ended, Runs, PollFailed}
 use Rattle.fk_trace.specs.Decision.{Answer}
 use Rattle.fk_trace.specs.Decision.Answer.{Nothing, Refuses, Opens}
-use Rattle.fk_trace.specs.Planned.{settled_at, settled_in}
-use Rattle.fk_trace.specs.Legal.{IsPollOf, IsAttempt, AttemptsThatOpen, IsNoAttempt, IsNoPoll, moments_with, ends_after}
-use Rattle.fk_trace.specs.Headline.{close_attempted}
+use Rattle.fk_trace.specs.Settled.{settled_at, settled_in}
+use Rattle.fk_trace.specs.Attempts.{IsPollOf, IsAttempt, AttemptsThatOpen, IsNoAttempt, IsNoPoll}
+use Rattle.fk_trace.specs.Idle.{moments_with, ends_after}
 use Rattle.fk_log.specs.Log.{poll_line, poll_lines, attempt_lines}
 
 -- the item is an attempt

@@ -10,11 +10,10 @@ use Rattle.fk_trace.specs.Trace.{Event, Item, Child, attempt_of, past_after}
 use Rattle.fk_trace.specs.Trace.Event.{Turn, Began, StartFailed, Ended, Runs, PollFailed}
 use Rattle.fk_trace.specs.Ledger.{opens, dones, after}
 use Rattle.fk_trace.specs.Idle.{child_numbered}
-use Rattle.fk_trace.specs.Decision.{FeedTurn, Input, Rules, Answer, answer}
+use Rattle.fk_trace.specs.Decision.{FeedTurn, Input, Rules, Answer, answer, recorded_by}
 use Rattle.fk_trace.specs.Decision.Input.{Quiet, Datagram}
 use Rattle.fk_trace.specs.Decision.Answer.{Nothing, Refuses, Opens}
-use Rattle.fk_trace.specs.Planned.{recorded_by}
-use Rattle.fk_trace.proofs.Turns.{opens-append, dones-append}
+use Rattle.fk_trace.proofs.Ledgers.{opens-append, dones-append}
 use Rattle.fk_run.specs.Place.{Place}
 use Rattle.fk_run.specs.Turn.{TakenTurn}
 use Rattle.fk_log.specs.Line.{Line}

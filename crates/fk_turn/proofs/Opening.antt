@@ -14,11 +14,10 @@ use Rattle.fk_trace.specs.declared.refusal.LogWhy.TheVariants.{Replay, Full}
 use Rattle.fk_trace.specs.Trace.{Event, Item, attempt_of}
 use Rattle.fk_trace.specs.Trace.Event.{Turn, Began, StartFailed, Ended, Runs, PollFailed}
 use Rattle.fk_trace.specs.Ledger.{after, is_seen, seen, MayFollow}
-use Rattle.fk_trace.specs.Decision.{FeedTurn, Permit, Rules, Verdict, Answer, answer_formed, answer_by, record_of}
+use Rattle.fk_trace.specs.Decision.{FeedTurn, Permit, Rules, Verdict, Answer, answer_formed, answer_by, record_of, recorded_by}
 use Rattle.fk_trace.specs.Decision.Input.{Quiet}
 use Rattle.fk_trace.specs.Decision.Answer.{Refuses, Opens}
-use Rattle.fk_trace.specs.Planned.{recorded_by}
-use Rattle.fk_trace.specs.Legal.{IsAttempt, AttemptsThatOpen}
+use Rattle.fk_trace.specs.Attempts.{IsAttempt, AttemptsThatOpen}
 use Rattle.fk_trace.proofs.Grants.{fresh-unseen}
 use Rattle.fk_run.specs.Place.{Place}
 use Rattle.fk_host.specs.Count.{counted}

@@ -10,10 +10,10 @@ use Rattle.fk_trace.specs.declared.change.Change.TheVariants.{Open as OpenChange
 use Rattle.fk_trace.specs.Trace.{Event, Item, close_tried, past_after}
 use Rattle.fk_trace.specs.Trace.Event.{Turn, StartFailed}
 use Rattle.fk_trace.specs.Ledger.{seen, after, IsLedger, MayFollow}
-use Rattle.fk_trace.specs.Decision.{FeedTurn, Rules, Permit, Answer, answer}
+use Rattle.fk_trace.specs.Decision.{FeedTurn, Rules, Permit, Answer, answer, recorded_by}
 use Rattle.fk_trace.specs.Decision.Answer.{Nothing, Refuses, Opens}
-use Rattle.fk_trace.specs.Planned.{settled_at, settled_in, settlements, recorded_by}
-use Rattle.fk_trace.specs.Legal.{PollsEachOnce, AttemptsThatOpen, IsNoAttempt}
+use Rattle.fk_trace.specs.Settled.{settled_at, settled_in, settlements}
+use Rattle.fk_trace.specs.Attempts.{PollsEachOnce, AttemptsThatOpen, IsNoAttempt}
 use Rattle.fk_trace.proofs.Grants.{granted-opens}
 use Rattle.fk_trace.proofs.Lists.{All-by, Contains-tail}
 use Rattle.fk_trace.proofs.Settled.{past_after-append, settled_in-append}

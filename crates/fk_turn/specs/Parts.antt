@@ -16,12 +16,12 @@ use Rattle.fk_trace.specs.declared.refusal.LogWhy.{LogWhy}
 use Rattle.fk_trace.specs.Trace.{Item}
 use Rattle.fk_trace.specs.Trace.Event.{Turn}
 use Rattle.fk_trace.specs.Ledger.{seen, is_seen}
-use Rattle.fk_trace.specs.Decision.{FeedTurn, Permit, Answer, answer, record_of}
+use Rattle.fk_trace.specs.Decision.{FeedTurn, Permit, Answer, answer, record_of, recorded_by}
 use Rattle.fk_trace.specs.Decision.Input.{Datagram}
 use Rattle.fk_trace.specs.Decision.Answer.{Refuses, Opens}
 use Rattle.fk_trace.specs.Decision.Verdict.{Granted}
-use Rattle.fk_trace.specs.Planned.{settled_in, recorded_by}
-use Rattle.fk_trace.specs.Legal.{PollsEachOnce, IsAttempt, AttemptsThatOpen}
+use Rattle.fk_trace.specs.Settled.{settled_in}
+use Rattle.fk_trace.specs.Attempts.{PollsEachOnce, IsAttempt, AttemptsThatOpen}
 use Rattle.fk_run.specs.Place.{Place, behind}
 use Rattle.fk_host.specs.Count.{counted}
 use Rattle.fk_log.specs.Line.{Line}

@@ -9,7 +9,7 @@ use Rattle.fk_base.specs.declared.purpose.Purpose.TheVariants.{Open}
 use Rattle.fk_trace.specs.declared.change.Change.{Change}
 use Rattle.fk_trace.specs.declared.change.Change.TheVariants.{Open as OpenChange}
 use Rattle.fk_trace.specs.Ledger.{after}
-use Rattle.fk_trace.specs.Legal.{IsAttempt}
+use Rattle.fk_trace.specs.Attempts.{IsAttempt}
 use Rattle.fk_host.specs.Disk.{Above}
 use Rattle.fk_ledger.specs.Holds.{KeepsLedger}
 use Rattle.fk_child.specs.Crew.{IsTied}
