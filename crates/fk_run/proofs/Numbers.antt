@@ -10,7 +10,7 @@ use Rattle.fk_trace.proofs.Lists.{Contains-head, find-only, same_by_key}
 use Rattle.fk_trace.proofs.Splits.{pair-before}
 use Rattle.fk_trace.proofs.Settled.{past_after-append}
 use Rattle.fk_run.specs.Run.{Run, trace_of}
-use Rattle.fk_run.specs.Legal.{Legal, MeansChild}
+use Rattle.fk_run.specs.Legal.{Legal, BeganBehind, MeansChild}
 use Rattle.fk_run.proofs.Keeping.{IsNumbered}
 use Rattle.fk_run.proofs.Leaves.{children-after, numbered-before}
 
@@ -39,21 +39,21 @@ begun-found past child numbered m =
     find-only (λ (c : Child). c.number == child.number) (children past) child m (eq-eqb child.number child.number refl)
     (λ x n t. same_by_key (λ (c : Child). c.number) (children past) (λ i j d l k. let lt = numbered i j d l k in λ same. absurd (omega arith)) x child n m (eqb-true x.number child.number t))
 
-pub means-one : (run : Run) → Legal run → (before between later : List Item) (item : Item) (child : Child) (words : List (List ℕ)) → trace_of run ≡ before ++ item ∷ (between ++ later) → item.event ≡ Began child.number child.purpose words
-    → MeansChild before child (past_after [] (before ++ item ∷ between))
-means-one run legal before between later item child words placed e =
+pub means-one : (run : Run) → Legal run → (before : List Item) (child : Child) (past : List Item) → BeganBehind run before child past → MeansChild before child past
+means-one run legal before child past from =
     let start : List Item = past_after [] before in
-    let place : List Item = past_after (item ∷ start) between in
-    let same : past_after [] (before ++ item ∷ between) ≡ place = past_after-append [] before (item ∷ between) in
-    let all : past_after [] (trace_of run) ≡ past_after place later = ap (past_after []) placed ∙ past_after-append [] before (item ∷ (between ++ later)) ∙ past_after-append (item ∷ start) between later in
-    let numbered : IsNumbered (children place) = numbered-before place later (subst (λ (past : List Item). IsNumbered (children past)) all legal.numbered) in
-    let begun : Contains (children (item ∷ start)) child =
-    subst (λ (event : Event). Contains (children start ++ begun_by event) child) (sym e) (Contains-append_right (children start) (child ∷ []) child (Contains-head child [])) in
-    let more = children-after (item ∷ start) between in
-    let there : Contains (children place) child = subst (λ (cs : List Child). Contains cs child) (sym more.1) (Contains-append_left (children (item ∷ start)) more.0 child begun) in
-    let first : begins child.number item.event ≡ true = ap (begins child.number) e ∙ eq-eqb child.number child.number refl in
-    subst (λ (past : List Item). MeansChild before child past) (sym same)
+    let place : List Item = past_after (from.item ∷ start) from.between in
+    let same : past ≡ place = from.since ∙ past_after-append [] before (from.item ∷ from.between) in
+    let all : past_after [] (trace_of run) ≡ past_after place from.later =
+    ap (past_after []) from.placed ∙ past_after-append [] before (from.item ∷ (from.between ++ from.later)) ∙ past_after-append (from.item ∷ start) from.between from.later in
+    let numbered : IsNumbered (children place) = numbered-before place from.later (subst (λ (looking : List Item). IsNumbered (children looking)) all legal.numbered) in
+    let begun : Contains (children (from.item ∷ start)) child =
+    subst (λ (event : Event). Contains (children start ++ begun_by event) child) (sym from.began) (Contains-append_right (children start) (child ∷ []) child (Contains-head child [])) in
+    let more = children-after (from.item ∷ start) from.between in
+    let there : Contains (children place) child = subst (λ (cs : List Child). Contains cs child) (sym more.1) (Contains-append_left (children (from.item ∷ start)) more.0 child begun) in
+    let first : begins child.number from.item.event ≡ true = ap (begins child.number) from.began ∙ eq-eqb child.number child.number refl in
+    subst (λ (looking : List Item). MeansChild before child looking) (sym same)
     (record {
       found = begun-found place child numbered there;
-      clean = λ id. clean-kept (item ∷ start) between child id begun numbered ∙ rw first refl;
+      clean = λ id. clean-kept (from.item ∷ start) from.between child id begun numbered ∙ rw first refl;
     })

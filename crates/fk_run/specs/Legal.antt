@@ -1,7 +1,8 @@
 -- Which runs the daemon and the trial may have.
-use Rattle.std.specs.Prelude.{◌≡◌, ◌⊎◌, ℕ, ◌<◌, not, IsTrue, List, [], ◌∷◌, Some}
+use Rattle.std.specs.Prelude.{◌≡◌, ◌⊎◌, ℕ, ◌<◌, not, IsTrue, List, [], ◌∷◌, ◌++◌, Some}
 use Rattle.std.specs.List.{AllPairs, AllByRecursion}
 use Rattle.fk_trace.specs.Trace.{Item, Child, children, open_runs, past_after}
+use Rattle.fk_trace.specs.Trace.Event.{Began}
 use Rattle.fk_trace.specs.Idle.{child_numbered, is_clean}
 use Rattle.fk_trace.specs.Decision.{Rules}
 use Rattle.fk_run.specs.Place.{Place, entry}
@@ -22,8 +23,18 @@ pub record Legal (run : Run) : Type 0 where
   -- the host numbers its children by rising numbers, so that a number means one child
   pub numbered : AllPairs (λ a b. a.number < b.number) (children (past_after [] (trace_of run)))
 
--- Looking back from a place with this past at a child that began behind these items of the run: it is the child that is found by its
--- number, and clean asks what ran where it began.
+-- the child began in the run behind these items, and this is the past of a place behind its Began
+pub record BeganBehind (run : Run) (before : List Item) (child : Child) (past : List Item) : Type 0 where
+  pub item : Item
+  pub words : List (List ℕ)
+  pub between : List Item
+  pub later : List Item
+  pub placed : trace_of run ≡ before ++ item ∷ (between ++ later)
+  pub began : item.event ≡ Began child.number child.purpose words
+  pub since : past ≡ past_after [] (before ++ item ∷ between)
+
+-- Looking back with this past at a child that began behind these items: it is the child that is found by its number, and clean asks
+-- what ran where it began.
 pub record MeansChild (before : List Item) (child : Child) (past : List Item) : Type 0 where
   pub found : child_numbered child.number past ≡ Some child
   pub clean : (id : ℕ) → is_clean past child.number id ≡ not (open_runs (past_after [] before) id)

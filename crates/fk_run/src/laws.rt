@@ -1,15 +1,14 @@
-ghost use Rattle.std.specs.Prelude.{◌≡◌, ℕ, List, [], ◌∷◌, ◌++◌};
+ghost use Rattle.std.specs.Prelude.{◌≡◌, ℕ, List, ◌∷◌, ◌++◌};
 ghost use Rattle.std.specs.List.{Contains};
 ghost use Rattle.fk_base.specs.declared.purpose.Purpose.TheVariants.{Open, Close};
-ghost use Rattle.fk_trace.specs.Trace.{Item, Child, past_after};
-ghost use Rattle.fk_trace.specs.Trace.Event.{Began};
+ghost use Rattle.fk_trace.specs.Trace.{Item, Child};
 ghost use Rattle.fk_trace.specs.Ledger.{dones, after, IsLedger};
 ghost use Rattle.fk_trace.specs.Settled.{EndedCleanly};
 ghost use Rattle.fk_trace.specs.Attempts.{IsAttempt};
 ghost use Rattle.fk_run.specs.Place.{entry};
 ghost use Rattle.fk_run.specs.Turn.{TakenTurn, after_turns};
 ghost use Rattle.fk_run.specs.Run.{Run, trace_of, changes_of};
-ghost use Rattle.fk_run.specs.Legal.{Legal, MeansChild};
+ghost use Rattle.fk_run.specs.Legal.{Legal, BeganBehind, MeansChild};
 ghost use Rattle.fk_run.specs.Planned.{MakesWhatIsPlanned};
 ghost use Rattle.fk_run.specs.Headline.{OpensByGrant, OpensOnce, ClosesWhenDue, IsTurnOf, IsWholeTurnOf, StartsWhatIsOwed};
 
@@ -43,7 +42,6 @@ pub fn legal_runs_leave_a_ledger()
 /// In a legal run a number means one child, from its beginning on: the end of a child and the test whether a close was clean speak
 /// of the same one.
 pub fn legal_runs_tell_children_apart()
-    ensures { (run : Run) → Legal run → (before between later : List Item) (item : Item) (child : Child) (words : List (List ℕ))
-        → trace_of run ≡ before ++ item ∷ (between ++ later) → item.event ≡ Began child.number child.purpose words
-        → MeansChild before child (past_after [] (before ++ item ∷ between)) }
+    ensures { (run : Run) → Legal run → (before : List Item) (child : Child) (past : List Item)
+        → BeganBehind run before child past → MeansChild before child past }
 {}

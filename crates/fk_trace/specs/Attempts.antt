@@ -50,7 +50,7 @@ AttemptsThatOpen (Opens item permit) items = IsOneAttempt (Open item.id) permit.
 abbrev pub Precedes : OpenRecord → OpenRecord → Type 0
 Precedes earlier later = (earlier.due < later.due) ⊎ ((earlier.due ≡ later.due) × (earlier.id < later.id))
 
--- the event starts nothing
+-- the event is no attempt
 abbrev pub IsNoAttempt : Event → Type 0
 IsNoAttempt (Turn number) = Unit {0}
 IsNoAttempt (Began number purpose words) = ⊥
@@ -59,7 +59,7 @@ IsNoAttempt (Ended number good) = Unit {0}
 IsNoAttempt (Runs number) = Unit {0}
 IsNoAttempt (PollFailed number) = Unit {0}
 
--- the event answers no poll
+-- the event is no answer to a poll
 abbrev pub IsNoPoll : Event → Type 0
 IsNoPoll (Turn number) = Unit {0}
 IsNoPoll (Began number purpose words) = Unit {0}
