@@ -1,0 +1,7 @@
+pub mod Conditions
+pub mod Granted
+pub mod Shapes
+pub mod PlainBytes
+pub mod Sealed
+pub mod Sent
+mod WorkedRow
