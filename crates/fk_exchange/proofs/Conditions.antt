@@ -57,7 +57,7 @@ same_proto Udp Udp is = refl
 same_proto Tcp Udp is = cc
 same_proto Udp Tcp is = cc
 
-found : (pairs : List Pair) (pair : Pair) → is_in pairs pair ≡ true → Contains pairs pair
+pub found : (pairs : List Pair) (pair : Pair) → is_in pairs pair ≡ true → Contains pairs pair
 found pairs pair is =
     let some = Any-from_list_any (λ p. is_same_proto p.proto pair.proto && p.port == pair.port) pairs is in
     let both = and_parts (is_same_proto some.1.proto pair.proto) (some.1.port == pair.port) some.4 in

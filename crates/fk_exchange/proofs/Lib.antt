@@ -1,5 +1,6 @@
 pub mod Conditions
 pub mod Granted
+pub mod Permitted
 pub mod Shapes
 pub mod PlainBytes
 pub mod Sealed

@@ -1,4 +1,5 @@
 ghost use Rattle.std.specs.Prelude.{◌≡◌, ℕ, List, Some, slice_get};
+ghost use Rattle.fk_base.specs.declared.grant.Grant.{Grant};
 ghost use Rattle.fk_access.specs.declared.stanza.Stanza.{Stanza};
 ghost use Rattle.fk_admit.specs.Admit.{granted_by};
 ghost use Rattle.fk_admit.specs.Arrival.{Arrival};
@@ -20,6 +21,13 @@ pub fn what_is_permitted_is_granted()
         → (number : ℕ) → granted_by number stanza arrival ≡ Some (grant_for number stanza request arrival.source) }
     ensures admits { (request : Request) (arrival : Arrival) (stanza : Stanza) → Arrives request arrival → Permits stanza request arrival
         → (access : List Stanza) (place : ℕ) → slice_get access place ≡ Some stanza → IsLetIn access place arrival }
+{}
+
+/// A stanza that has the keys of a request grants it in no other case.
+pub fn only_what_is_permitted_is_granted()
+    ensures { (request : Request) (arrival : Arrival) (stanza : Stanza) → IsDatagramOf request arrival.datagram
+        → stanza.keys ≡ request.settings.keys → (number : ℕ) (grant : Grant) → granted_by number stanza arrival ≡ Some grant
+        → Arrives request arrival × Permits stanza request arrival }
 {}
 
 /// Each request that a client can make has a datagram: the laws above speak of something.

@@ -11,4 +11,7 @@ mod bounds;
 mod laws;
 
 pub use bounds::settings_are_within;
-pub use laws::{every_request_has_a_datagram, requests_have_shape, what_is_permitted_is_granted};
+pub use laws::{
+    every_request_has_a_datagram, only_what_is_permitted_is_granted, requests_have_shape,
+    what_is_permitted_is_granted,
+};
