@@ -1,0 +1,5 @@
+pub mod Request
+pub mod Permits
+pub mod Granted
+pub mod Shape
+pub mod Sendable
