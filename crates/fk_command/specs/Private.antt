@@ -1,0 +1,59 @@
+-- What the contracts of this crate's private functions speak of. No public contract cites it, so no caller has to believe it.
+use Rattle.std.specs.Prelude.{ℕ, Bool, not, List, map, ◌==◌}
+use Rattle.std.specs.List.{filter, list_any}
+use Rattle.fk_trace.specs.declared.change.Change.{Change}
+use Rattle.fk_trace.specs.declared.change.OpenRecord.{OpenRecord}
+use Rattle.fk_trace.specs.Ledger.{opens, dones}
+use Rattle.fk_log.specs.Line.{Line}
+use Rattle.fk_log.specs.Line.Line.{ListedLine}
+use Rattle.fk_conf.specs.declared.command.Command.{Command}
+use Rattle.fk_conf.specs.declared.command.Command.TheVariants as command
+use Rattle.fk_child.specs.View.{View}
+use Rattle.fk_daemon.specs.Account.{AreLimits}
+use Rattle.fk_log.specs.Printing.{SinkView}
+use Rattle.fk_daemon.specs.Outside.{Outside}
+use Rattle.fk_command.specs.declared.files.FileNames.{FileNames}
+use Rattle.fk_command.specs.declared.refusal.Refusal.{Refusal}
+use Rattle.fk_command.specs.declared.refusal.Refusal.TheVariants as refusal
+use Rattle.fk_command.specs.World.{FilesView, World}
+use Rattle.fk_command.specs.Faults.{Fault}
+use Rattle.fk_command.specs.Faults.Fault.{WrongWords, FileNotHeld, FileNotRead, WrongFile, DiskFails, DamagedLedger, WantsMemory}
+use Rattle.fk_command.specs.Files.{Names}
+
+abbrev pub fault_of : Refusal → Fault
+fault_of (refusal.Words fault) = WrongWords fault
+fault_of (refusal.Missing name) = FileNotHeld name.now
+fault_of (refusal.Failed name) = FileNotRead name.now
+fault_of (refusal.BadFile name line what) = WrongFile name.now line what.now
+fault_of refusal.Disk = DiskFails
+fault_of (refusal.Damaged place) = DamagedLedger place
+fault_of refusal.NoMemory = WantsMemory
+
+abbrev pub names_of : FileNames → Names
+names_of names = record { conf = names.conf.now; access = names.access.now }
+
+-- a world with these files and this outside
+abbrev pub served_in : World → FilesView → Outside → World
+served_in around files outside = record around { files = files; outside = outside }
+
+-- a world with this host and this output
+abbrev pub listed_in : World → View → SinkView → World
+listed_in around host sink = record around { outside = record around.outside { host = host; sink = sink } }
+
+-- what the words of this program may ask for: no command of another program, and no limits that are none
+abbrev pub IsDaemonCommand : Command → Type 0
+IsDaemonCommand (command.Serve conf access packets turns verbose) = AreLimits (record { packets = packets; turns = turns })
+IsDaemonCommand (command.Trial conf access quiet verbose) = Unit {0}
+IsDaemonCommand command.List = Unit {0}
+IsDaemonCommand (command.Send send) = ⊥
+IsDaemonCommand command.KeyGen = ⊥
+IsDaemonCommand command.Help = Unit {0}
+IsDaemonCommand command.Version = Unit {0}
+
+-- the record has no Done in the ledger
+abbrev pub is_live : List Change → OpenRecord → Bool
+is_live ledger item = not (list_any (λ id. id == item.id) (dones ledger))
+
+-- the lines of those of these changes that open what is live in the ledger
+abbrev pub listed_lines : List Change → List Change → List Line
+listed_lines ledger changes = map ListedLine (filter (is_live ledger) (opens changes))
