@@ -34,8 +34,8 @@ pub(crate) fn read_files<'a, F: Files>(
     files: &mut F,
 ) -> Result<Settings, Refusal<'a>>
     ensures { let at = files_by F.held F.faults in MatchResult result
-        (λ read. ReadsFiles (names_of names) read.conf read.access (at files.old) (at files.new))
-        (λ refusal. FailsFiles (names_of names) (fault_of refusal) (at files.old) (at files.new)) }
+        (λ read. ReadsFiles (names_of names.entry) read.conf read.access (at files.old) (at files.new))
+        (λ refusal. FailsFiles (names_of names.entry) (fault_of refusal) (at files.old) (at files.new)) }
 {
     let conf = match conf_of(alloc, names.conf, files) {
         Ok(conf) => conf,

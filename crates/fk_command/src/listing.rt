@@ -1,14 +1,14 @@
 //! The live records are listed.
-ghost use Rattle.std.specs.Prelude.{◌≡◌, ◌==◌, ◌∷◌, [], Bool};
+ghost use Rattle.std.specs.Prelude.{◌≡◌, ◌∷◌, [], Bool};
 ghost use Rattle.std.specs.List.{list_any};
-ghost use Rattle.fk_trace.specs.Ledger.{dones};
 ghost use Rattle.fk_log.specs.Writing.{Logs, output};
 ghost use Rattle.fk_child.specs.View.{view_of};
 ghost use Rattle.fk_log.specs.Printing.{Prints, sink_by};
 ghost use Rattle.fk_command.specs.Causes.{FailsByAnswer};
 ghost use Rattle.fk_command.specs.Listing.{Lists, list_text, printed_status};
-ghost use Rattle.fk_command.specs.Private.{listed_in, listed_lines};
-ghost use Rattle.fk_command.specs.World.{World};
+ghost use Rattle.fk_command.specs.Private.{listed_in, listed_lines, settles};
+ghost use Rattle.fk_command.specs.World.{FilesView, InputView};
+ghost use Rattle.fk_daemon.specs.Outside.{FeedView};
 
 use crate::refusal::{Refusal, refuse};
 use fk_base::Status;
@@ -21,9 +21,11 @@ use std::alloc::Global;
 /// Prints the live records of the ledger that the disk holds. All memory is taken before the first line is written.
 pub(crate) fn list_records<H: Host, K: Sink>(alloc: Global, host: &mut H, out: &mut K) -> Status
     ensures lists { let view = view_of H.told H.may_leave H.faults H.above in let sink = sink_by K.written K.faults in
-        (around : World) → Lists (listed_in around (view host.old) (sink out.old)) (listed_in around (view host.new) (sink out.new)) result }
+        (files : FilesView) (feed : FeedView) (input : InputView)
+        → Lists (listed_in files feed input (view host.old) (sink out.old)) (listed_in files feed input (view host.new) (sink out.new)) result }
     ensures counts { let view = view_of H.told H.may_leave H.faults H.above in let sink = sink_by K.written K.faults in
-        (around : World) → FailsByAnswer result (listed_in around (view host.old) (sink out.old)) (listed_in around (view host.new) (sink out.new)) }
+        (files : FilesView) (feed : FeedView) (input : InputView)
+        → FailsByAnswer result (listed_in files feed input (view host.old) (sink out.old)) (listed_in files feed input (view host.new) (sink out.new)) }
 {
     match Ledger::view(alloc, host) {
         Ok(changes) => print_live(&changes, out),
@@ -66,13 +68,13 @@ fn log_opened<K: Sink>(changes: &[Change], change: &Change, log: &mut LogWriter,
 
 /// Whether the record of this number is closed for good.
 fn is_done(changes: &[Change], id: u64) -> bool
-    ensures { result ≡ list_any (λ done. done == id) (dones changes.now) }
+    ensures { result ≡ list_any (settles id) changes.now }
 {
     changes.iter().any(|change| settles(change, id))
 }
 
 fn settles(change: &Change, id: u64) -> bool
-    ensures { result ≡ list_any (λ done. done == id) (dones (change.now ∷ [])) }
+    ensures { result ≡ settles id change.now }
 {
     match change {
         Change::Open(_) => false,

@@ -47,7 +47,7 @@ pub(crate) fn refusal_of_words<'a>(fault: WordFault) -> Refusal<'a>
 
 /// Says the refusal. Where memory is wanting nothing is written.
 pub(crate) fn refuse<K: Sink>(refusal: Refusal<'_>, out: &mut K) -> Status
-    ensures { let at = sink_by K.written K.faults in Tells (fault_of refusal) (at out.old) (at out.new) result }
+    ensures { let at = sink_by K.written K.faults in Tells (fault_of refusal.entry) (at out.old) (at out.new) result }
 {
     match refusal {
         Refusal::Words(fault) => {

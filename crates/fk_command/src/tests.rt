@@ -28,7 +28,7 @@ fn stanzas() -> &'static [u8] {
     b"SOURCE ANY\nOPEN_PORTS tcp/22\nKEY bob-key\nHMAC_KEY bob-mac\nCMD_CYCLE_OPEN /bin/o $IP $PROTO/$PORT\nCMD_CYCLE_CLOSE /bin/c $IP\nCMD_CYCLE_TIMER 30\n"
 }
 
-/// What a run is script: its words, between spaces; its files, of which one without text is not held; the journal; how many bytes the
+/// What a run is given: its words, between spaces; its files, of which one without text is not held; the journal; how many bytes the
 /// output takes; and what fails.
 #[derive(Clone, Copy)]
 struct Script {
