@@ -1,3 +1,9 @@
+pub mod World
 pub mod FaultNames
-pub mod Command
-pub mod Reading
+pub mod Faults
+pub mod Files
+pub mod Listing
+pub mod Running
+pub mod Causes
+pub mod Ready
+pub mod Private

@@ -1,16 +1,20 @@
-//! The serving command whole: the words of the command line and the two files are read, each fault is told by one line, and then the
-//! turns of the feed are served.
+//! The program `fwknopd` whole: the words of the command line are read, and the files that they name; then the turns of the feed are
+//! served, the live records are listed, or a text of the program is printed. A fault is told by one line.
 //!
-//! What serving is stands in `fk_daemon`, what the words and the files mean in `fk_conf` and `fk_access`. No other command is known
-//! here.
+//! What serving is stands in `fk_daemon`, what the words and the files mean in `fk_conf` and `fk_access`, and what a journal holds in
+//! `fk_ledger`. The objects of the system are handed in.
 //!
-//! Start at `command`; `specs/Command.antt` says which task the words and the files make.
+//! Start at `running`; `specs/Running.antt` says what a run does, and `specs/Causes.antt` which object failed, by its answer.
 #![tactic(auto)]
 
-mod command;
 mod fault_names;
-mod reading;
+mod files;
+mod help;
+mod listing;
+mod refusal;
+mod running;
+mod serving;
 #[cfg(test)]
 mod tests;
 
-pub use command::serve_command;
+pub use running::fwknopd_run;

@@ -1,6 +1,8 @@
-use crate::serve_command;
-use fk_base::{Ip4, Moment, Status, Words};
-use fk_host::{MemFeed, MemFiles, MemHost, MemSink};
+//! Whole runs of the program, over objects in memory.
+use crate::fwknopd_run;
+use crate::help::HELP;
+use fk_base::{Ip4, Moment, NoMemory, Parts, Status, Words};
+use fk_host::{MemFeed, MemFiles, MemHost, MemSink, MemSource};
 use std::alloc::Global;
 use std::process::Abort;
 use std::test::Fail;
@@ -12,16 +14,108 @@ fn packet() -> &'static [u8] {
     b"8AAQIDBAUGB/6Y9MR8+u06nESdms6YKKxYJsUNfSMMBA2K+Oehf3k9GjWrJjbvDzHo6zIvF9t3/4On3wOSQ0vg3XkN2NBV+AQmHSwrnaNm/7SKg3bjpo8C71lL4IzWHfc3CL/dncz/ai+26HIEhFbe5gh7JT6eU9sZupT2lcQkcOZ19GWSa9Ou3oPWDnh8xaLUv0v4mA4RH8"
 }
 
-const SERVE: &[&[u8]] = &[b"-f", b"-c", b"conf", b"-a", b"access"];
+/// The journal of the worked example in docs/journal.md, written down by hand: one live record.
+fn recorded() -> &'static [u8] {
+    b"\x01\x01\x00\x00\x00\x52\x01\x00\x00\x00\x00\x00\x00\x00\x01\xaa\xaa\xaa\xaa\xaa\xaa\xaa\xaa\xaa\xaa\xaa\xaa\xaa\xaa\xaa\xaa\xaa\xaa\xaa\xaa\xaa\xaa\xaa\xaa\xaa\xaa\xaa\xaa\xaa\xaa\xaa\xaa\x00\x00\x00\x00\x65\x53\xf1\x00\x00\x00\x00\x00\x65\x53\xf1\x1e\x0a\x00\x00\x07\x06\x00\x16\x02\x00\x06/bin/c\x00\x0810.0.0.7\x00"
+}
 
+/// The same with a second record, of 10.0.0.8 and udp/53, and the first one settled behind it.
+fn settled() -> &'static [u8] {
+    b"\x01\x01\x00\x00\x00\x52\x01\x00\x00\x00\x00\x00\x00\x00\x01\xaa\xaa\xaa\xaa\xaa\xaa\xaa\xaa\xaa\xaa\xaa\xaa\xaa\xaa\xaa\xaa\xaa\xaa\xaa\xaa\xaa\xaa\xaa\xaa\xaa\xaa\xaa\xaa\xaa\xaa\xaa\xaa\x00\x00\x00\x00\x65\x53\xf1\x00\x00\x00\x00\x00\x65\x53\xf1\x1e\x0a\x00\x00\x07\x06\x00\x16\x02\x00\x06/bin/c\x00\x0810.0.0.7\x01\x00\x00\x00\x48\x01\x00\x00\x00\x00\x00\x00\x00\x02\xbb\xbb\xbb\xbb\xbb\xbb\xbb\xbb\xbb\xbb\xbb\xbb\xbb\xbb\xbb\xbb\xbb\xbb\xbb\xbb\xbb\xbb\xbb\xbb\xbb\xbb\xbb\xbb\xbb\xbb\xbb\xbb\x00\x00\x00\x00\x65\x53\xf1\x02\x00\x00\x00\x00\x65\x53\xf1\x20\x0a\x00\x00\x08\x11\x00\x35\x01\x00\x06/bin/d\x01\x00\x00\x00\x08\x02\x00\x00\x00\x00\x00\x00\x00\x01\x00"
+}
+
+fn stanzas() -> &'static [u8] {
+    b"SOURCE ANY\nOPEN_PORTS tcp/22\nKEY bob-key\nHMAC_KEY bob-mac\nCMD_CYCLE_OPEN /bin/o $IP $PROTO/$PORT\nCMD_CYCLE_CLOSE /bin/c $IP\nCMD_CYCLE_TIMER 30\n"
+}
+
+/// What a run is given: its words, between spaces; its files, of which one without text is not held; the journal; how many bytes the
+/// output takes; and what fails.
 #[derive(Clone, Copy)]
-struct Row {
-    words: &'static [&'static [u8]],
+struct Script {
+    words: &'static [u8],
     conf: &'static [u8],
     access: &'static [u8],
-    status: Status,
-    log: &'static [u8],
+    area: &'static [u8],
+    room: Option<usize>,
+    failing_file: Option<&'static [u8]>,
+    failing_disk: Option<u64>,
+    failing_turn: Option<u64>,
 }
+
+fn script_of(words: &'static [u8]) -> Script {
+    Script {
+        words,
+        conf: b"# none\n",
+        access: stanzas(),
+        area: b"",
+        room: None,
+        failing_file: None,
+        failing_disk: None,
+        failing_turn: None,
+    }
+}
+
+/// The words between the spaces of a text.
+fn words_of(alloc: Global, text: &[u8]) -> Result<Words, NoMemory> {
+    let mut words = Words::new(alloc);
+    if text.is_empty() {
+        return Ok(words);
+    }
+    let mut parts = Parts::new(text, b' ');
+    while let Some(word) = parts.next() {
+        words.push(word)?;
+    }
+    Ok(words)
+}
+
+/// Two turns with the packet, one second after the other.
+fn feed_of(alloc: Global, failing_turn: Option<u64>) -> Result<MemFeed, Fail> {
+    let mut feed = MemFeed::new(alloc, failing_turn);
+    let first = Moment::new(1_700_000_000).ok_or("past the greatest moment")?;
+    let second = Moment::new(1_700_000_001).ok_or("past the greatest moment")?;
+    feed.add(first, NEAR, Some(packet()))?;
+    feed.add(second, NEAR, Some(packet()))?;
+    Ok(feed)
+}
+
+fn files_of(alloc: Global, script: &Script) -> Result<MemFiles, NoMemory> {
+    let mut files = MemFiles::new(alloc);
+    files.add(b"conf", script.conf)?;
+    if !script.access.is_empty() {
+        files.add(b"access", script.access)?;
+    }
+    if let Some(name) = script.failing_file {
+        files.fail(name)?;
+    }
+    Ok(files)
+}
+
+/// The run ends so, and prints this.
+fn prints(
+    rt: &impl Abort,
+    alloc: Global,
+    script: &Script,
+    status: Status,
+    text: &[u8],
+) -> Result<(), Fail> {
+    let words = words_of(alloc, script.words)?;
+    let mut files = files_of(alloc, script)?;
+    let mut feed = feed_of(alloc, script.failing_turn)?;
+    let mut host = MemHost::new(alloc, b"", script.area, b"")?;
+    if let Some(call) = script.failing_disk {
+        host.fail_disk(call)?;
+    }
+    let mut input = MemSource::new(alloc, b"", None)?;
+    let mut out = MemSink::new(alloc, script.room);
+    let ended = fwknopd_run(
+        alloc, &words, &mut files, &mut feed, &mut host, &mut input, &mut out,
+    );
+    assert_eq!(rt; out.written(), text);
+    assert_eq!(rt; ended, status);
+    Ok(())
+}
+
+const SERVE: &[u8] = b"-f -c conf -a access";
 
 /// A configuration, an access file, and the line that tells their first fault.
 type Fault = (&'static [u8], &'static [u8], &'static [u8]);
@@ -67,70 +161,194 @@ static FAULTS: [Fault; 14] = [
     ),
 ];
 
-fn play(rt: &impl Abort, alloc: Global, row: &Row) -> Result<(), Fail> {
-    let mut words = Words::new(alloc);
-    for word in row.words {
-        words.push(word)?;
-    }
-    let mut files = MemFiles::new(alloc);
-    files.add(b"conf", row.conf)?;
-    if !row.access.is_empty() {
-        files.add(b"access", row.access)?;
-    }
-    let mut feed = MemFeed::new(alloc, None);
-    feed.add(Moment::new(1_700_000_000).unwrap(), NEAR, Some(packet()))?;
-    let mut host = MemHost::new(alloc, b"", b"", b"")?;
-    let mut out = MemSink::new(alloc, None);
-    let status = serve_command(alloc, &words, &mut files, &mut feed, &mut host, &mut out);
-    assert_eq!(rt; out.written(), row.log);
-    assert_eq!(rt; status, row.status);
-    Ok(())
-}
-
 #[test]
-fn faults_are_told(rt: HostRuntime) -> Result<(), Fail> {
-    for row in &FAULTS {
-        let (conf, access, log) = *row;
-        let row = Row {
-            words: SERVE,
+fn first_fault_of_the_files_is_told(rt: HostRuntime) -> Result<(), Fail> {
+    for (conf, access, text) in FAULTS {
+        let script = Script {
             conf,
             access,
-            status: Status::Config,
-            log,
+            ..script_of(SERVE)
         };
-        play(&rt, rt.alloc(), &row)?;
+        prints(&rt, rt.alloc(), &script, Status::Config, text)?;
     }
     Ok(())
 }
 
-static RUNS: [Row; 3] = [
-    Row {
-        words: SERVE,
-        conf: b"",
-        access: b"SOURCE ANY\nOPEN_PORTS tcp/22\nKEY bob-key\nHMAC_KEY bob-mac\nCMD_CYCLE_OPEN /bin/o $IP $PROTO/$PORT\nCMD_CYCLE_CLOSE /bin/c $IP\nCMD_CYCLE_TIMER 30\n",
-        status: Status::Done,
-        log: b"ready 0\n1700000000 from 10.0.0.7 granted 1 stanza 1 until 1700000030\n1700000000 open 1 /bin/o 10.0.0.7 tcp/22\nsummary turns 1 opens 1 closes 0 settled 0 refused 0 live 1\n",
-    },
-    Row {
-        words: SERVE,
-        conf: b"",
-        access: b"",
-        status: Status::FileFault,
-        log: b"file access missing\n",
-    },
-    Row {
-        words: &[b"-f"],
-        conf: b"",
-        access: b"",
-        status: Status::Usage,
-        log: b"usage modes\n",
-    },
-];
-
 #[test]
-fn a_packet_is_served(rt: HostRuntime) -> Result<(), Fail> {
-    for row in &RUNS {
-        play(&rt, rt.alloc(), row)?;
+fn first_fault_of_the_words_is_told(rt: HostRuntime) -> Result<(), Fail> {
+    let rows: [(&[u8], &[u8]); 8] = [
+        (b"", b"usage modes\n"),
+        (b"--trial --trial", b"usage twice 2\n"),
+        (b"--bogus", b"usage unknown 1\n"),
+        (b"-C", b"usage value 1\n"),
+        (b"-C 0", b"usage bad 2\n"),
+        (b"-f -c conf -a access -q", b"usage modes\n"),
+        (b"--fw-list -f", b"usage modes\n"),
+        (b"--help --version", b"usage unknown 1\n"),
+    ];
+    for (words, text) in rows {
+        prints(&rt, rt.alloc(), &script_of(words), Status::Usage, text)?;
     }
     Ok(())
+}
+
+#[test]
+fn packets_are_served(rt: HostRuntime) -> Result<(), Fail> {
+    let rows: [(&[u8], &[u8]); 4] = [
+        (
+            b"-f -c conf -a access",
+            b"ready 0\n1700000000 from 10.0.0.7 granted 1 stanza 1 until 1700000030\n1700000000 open 1 /bin/o 10.0.0.7 tcp/22\n1700000001 ended open 1 good\n1700000001 from 10.0.0.7 refused replay\nsummary turns 2 opens 1 closes 0 settled 0 refused 1 live 1\n",
+        ),
+        (
+            b"-C 1 -a access -f -c conf",
+            b"ready 0\n1700000000 from 10.0.0.7 granted 1 stanza 1 until 1700000030\n1700000000 open 1 /bin/o 10.0.0.7 tcp/22\nsummary turns 1 opens 1 closes 0 settled 0 refused 0 live 1\n",
+        ),
+        (
+            b"-f -c conf -a access --turns 1 -C 2",
+            b"ready 0\n1700000000 from 10.0.0.7 granted 1 stanza 1 until 1700000030\n1700000000 open 1 /bin/o 10.0.0.7 tcp/22\nsummary turns 1 opens 1 closes 0 settled 0 refused 0 live 1\n",
+        ),
+        (
+            b"-f -v -c conf -a access --turns 1",
+            b"ready 0\n1700000000 turn 1\n1700000000 from 10.0.0.7 granted 1 stanza 1 until 1700000030\n1700000000 open 1 /bin/o 10.0.0.7 tcp/22\nsummary turns 1 opens 1 closes 0 settled 0 refused 0 live 1\n",
+        ),
+    ];
+    for (words, text) in rows {
+        prints(&rt, rt.alloc(), &script_of(words), Status::Done, text)?;
+    }
+    Ok(())
+}
+
+#[test]
+fn faults_of_a_serving_run_are_told(rt: HostRuntime) -> Result<(), Fail> {
+    let rows: [(Script, Status, &[u8]); 7] = [
+        (
+            script_of(b"-f -c none -a none"),
+            Status::FileFault,
+            b"file none missing\n",
+        ),
+        (
+            Script {
+                access: b"",
+                ..script_of(SERVE)
+            },
+            Status::FileFault,
+            b"file access missing\n",
+        ),
+        (
+            Script {
+                failing_file: Some(b"access"),
+                ..script_of(SERVE)
+            },
+            Status::FileFault,
+            b"file access failed\n",
+        ),
+        (
+            Script {
+                failing_disk: Some(1),
+                ..script_of(SERVE)
+            },
+            Status::DiskFault,
+            b"disk failed\n",
+        ),
+        (
+            Script {
+                area: b"\x01\x01\x00\x00\x00\x08\x02\x00\x00\x00\x00\x00\x00\x00",
+                ..script_of(SERVE)
+            },
+            Status::Damaged,
+            b"damaged 1\n",
+        ),
+        (
+            Script {
+                failing_turn: Some(2),
+                ..script_of(SERVE)
+            },
+            Status::FeedFault,
+            b"ready 0\n1700000000 from 10.0.0.7 granted 1 stanza 1 until 1700000030\n1700000000 open 1 /bin/o 10.0.0.7 tcp/22\nfeed failed\n",
+        ),
+        (
+            Script {
+                room: Some(8),
+                ..script_of(SERVE)
+            },
+            Status::SinkFault,
+            b"ready 0\n",
+        ),
+    ];
+    for (script, status, text) in rows {
+        prints(&rt, rt.alloc(), &script, status, text)?;
+    }
+    Ok(())
+}
+
+#[test]
+fn live_records_are_listed(rt: HostRuntime) -> Result<(), Fail> {
+    let list = script_of(b"--fw-list");
+    let rows: [(Script, Status, &[u8]); 6] = [
+        (list, Status::Done, b""),
+        (
+            Script {
+                area: recorded(),
+                ..list
+            },
+            Status::Done,
+            b"1 1700000000 1700000030 10.0.0.7 tcp/22 /bin/c 10.0.0.7\n",
+        ),
+        (
+            Script {
+                area: settled(),
+                ..list
+            },
+            Status::Done,
+            b"2 1700000002 1700000032 10.0.0.8 udp/53 /bin/d\n",
+        ),
+        (
+            Script {
+                area: recorded(),
+                room: Some(8),
+                ..list
+            },
+            Status::SinkFault,
+            b"1 170000",
+        ),
+        (
+            Script {
+                area: b"\x02\x00\x00",
+                ..list
+            },
+            Status::Damaged,
+            b"damaged 0\n",
+        ),
+        (
+            Script {
+                failing_disk: Some(1),
+                ..list
+            },
+            Status::DiskFault,
+            b"disk failed\n",
+        ),
+    ];
+    for (script, status, text) in rows {
+        prints(&rt, rt.alloc(), &script, status, text)?;
+    }
+    Ok(())
+}
+
+// A terminal of 24 lines of 80 columns shows all of it.
+#[test]
+fn help_fits_a_terminal(rt: HostRuntime) -> Result<(), Fail> {
+    let mut lines = 0;
+    for line in HELP.split(|byte| *byte == b'\n') {
+        assert!(rt; line.len() <= 80);
+        lines += 1;
+    }
+    assert!(rt; lines <= 24);
+    prints(&rt, rt.alloc(), &script_of(b"--help"), Status::Done, HELP)?;
+    let version = script_of(b"--version");
+    prints(&rt, rt.alloc(), &version, Status::Done, b"fwknopd 3.0.0\n")?;
+    let cut = Script {
+        room: Some(8),
+        ..version
+    };
+    prints(&rt, rt.alloc(), &cut, Status::SinkFault, b"fwknopd ")
 }

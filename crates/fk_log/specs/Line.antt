@@ -11,6 +11,8 @@ use Rattle.fk_trace.specs.declared.change.OpenRecord.{OpenRecord}
 use Rattle.fk_trace.specs.declared.refusal.LogWhy.{LogWhy}
 use Rattle.fk_trace.specs.declared.refusal.LogWhy.TheVariants as why
 use Rattle.fk_log.specs.declared.tally.Tally.{Tally}
+use Rattle.fk_log.specs.declared.usage_fault.UsageFault.{UsageFault}
+use Rattle.fk_log.specs.declared.usage_fault.UsageFault.TheVariants as usage
 
 -- one line; a moment comes first
 pub data Line : Type 0 where
@@ -33,7 +35,7 @@ pub data Line : Type 0 where
   -- a live record of a listing
   ListedLine : OpenRecord → Line
   -- the words of the command line are no command
-  UsageLine : Line
+  UsageLine : UsageFault → Line
   -- what is wrong in this line of the file of this name
   BadFileLine : List ℕ → ℕ → List ℕ → Line
   -- this line of a trial's input is none of its grammar
@@ -92,6 +94,14 @@ close_verb false = codes " close-failed "
 abbrev pub words_text : List (List ℕ) → List ℕ
 words_text words = join_with_byte 32 words
 
+-- what is wrong with the words of a command line, and at which of them
+abbrev pub usage_text : UsageFault → List ℕ
+usage_text (usage.Unknown place) = codes "usage unknown " ++ number_text place
+usage_text (usage.NoValue place) = codes "usage value " ++ number_text place
+usage_text (usage.Twice place) = codes "usage twice " ++ number_text place
+usage_text (usage.BadValue place) = codes "usage bad " ++ number_text place
+usage_text usage.Modes = codes "usage modes"
+
 -- what is wrong in a line of the file of this name
 abbrev pub config_text : List ℕ → ℕ → List ℕ → List ℕ
 config_text name line what = codes "config " ++ name ++ codes " " ++ number_text line ++ codes " " ++ what
@@ -123,7 +133,7 @@ line_front (OpenedLine moment id words begun) = number_text moment ++ open_verb 
 line_front (ClosedLine moment id words begun) = number_text moment ++ close_verb begun ++ number_text id ++ codes " " ++ words_text words
 line_front (SummaryLine turns tally live) = codes "summary turns " ++ number_text turns ++ tally_text tally ++ codes " live " ++ number_text live
 line_front (ListedLine item) = listed_text item
-line_front UsageLine = codes "usage modes"
+line_front (UsageLine fault) = usage_text fault
 line_front (BadFileLine name line what) = config_text name line what
 line_front (BadLineLine line) = config_text (codes "input") line (codes "BadLine")
 line_front (LongInputLine line) = config_text (codes "input") line (codes "TooLong")

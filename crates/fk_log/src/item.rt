@@ -1,4 +1,4 @@
-use crate::Tally;
+use crate::{Tally, UsageFault};
 use fk_base::{Ip4, Moment, Purpose, Words};
 use fk_trace::{LogWhy, OpenRecord};
 
@@ -69,7 +69,9 @@ pub enum LogItem<'a> {
         item: &'a OpenRecord,
     },
     /// The words of the command line are no command.
-    Usage,
+    Usage {
+        fault: UsageFault,
+    },
     /// What is wrong in this line of the file of this name; lines are numbered from 1.
     BadFile {
         name: &'a [u8],

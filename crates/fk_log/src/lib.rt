@@ -16,6 +16,7 @@ mod piece;
 mod tally;
 #[cfg(test)]
 mod tests;
+mod usage_fault;
 mod verbosity;
 mod writer;
 
@@ -23,5 +24,6 @@ pub use item::LogItem;
 pub use laws::{adjoining_lines_log_both, no_lines_log_nothing, turns_are_logged_in_order};
 pub use line::render;
 pub use tally::Tally;
+pub use usage_fault::UsageFault;
 pub use verbosity::Verbosity;
 pub use writer::LogWriter;

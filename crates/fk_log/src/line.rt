@@ -3,14 +3,14 @@ ghost use Rattle.fk_host.specs.Count.{HasCause};
 ghost use Rattle.fk_host.specs.Stream.{Gives};
 ghost use Rattle.fk_trace.specs.declared.change.OpenRecord.{OpenRecord};
 ghost use Rattle.fk_log.specs.Item.{line_of};
-ghost use Rattle.fk_log.specs.Line.{close_verb, config_text, good_text, line_front, line_text, listed_text, number_text, open_verb, purpose_text, why_text, words_text};
+ghost use Rattle.fk_log.specs.Line.{close_verb, config_text, good_text, line_front, line_text, listed_text, number_text, open_verb, purpose_text, usage_text, why_text, words_text};
 ghost use Rattle.fk_log.specs.Line.Line.{ReadyLine, TurnLine, EndedLine, PollFailedLine, SettledLine, RefusedLine, GrantedLine, OpenedLine, ClosedLine, SummaryLine, FileMissingLine, FileFailedLine, DamagedLine};
 ghost use Rattle.fk_log.specs.Private.{Puts, desk, text_of_pieces};
 ghost use Rattle.fk_log.specs.Writing.{GivesPart};
 
 use crate::draft::Draft;
 use crate::piece::Piece::{self, Address, Command, Number, Port, Text};
-use crate::{LogItem, Tally};
+use crate::{LogItem, Tally, UsageFault};
 use fk_base::{Failed, Ip4, Moment, Purpose, Words};
 use fk_host::Sink;
 use fk_trace::{LogWhy, OpenRecord};
@@ -74,7 +74,7 @@ fn put_line<K: Sink>(item: &LogItem<'_>, draft: &mut Draft, out: &mut K) -> Resu
             out,
         ),
         LogItem::Listed { item } => draft.put_pieces(&listed(item), out),
-        LogItem::Usage => draft.put_pieces(&[Text(b"usage modes")], out),
+        LogItem::Usage { fault } => put_usage(fault, draft, out),
         LogItem::BadFile { name, line, what } => draft.put_pieces(
             &config(name, u64::from(line), what),
             out,
@@ -233,6 +233,26 @@ fn listed(item: &OpenRecord) -> [Piece<'_>; 11]
         Text(b" "),
         Command(&item.close),
     ]
+}
+
+/// Puts what is wrong with the words of a command line, and where.
+fn put_usage<K: Sink>(fault: UsageFault, draft: &mut Draft, out: &mut K) -> Result<(), Failed>
+    ensures { Puts (usage_text fault) result
+        (desk draft.old (K.written out.old) (K.faults out.old)) (desk draft.new (K.written out.new) (K.faults out.new)) }
+{
+    match fault {
+        UsageFault::Unknown(place) => draft.put_pieces(&placed(b"usage unknown ", place), out),
+        UsageFault::NoValue(place) => draft.put_pieces(&placed(b"usage value ", place), out),
+        UsageFault::Twice(place) => draft.put_pieces(&placed(b"usage twice ", place), out),
+        UsageFault::BadValue(place) => draft.put_pieces(&placed(b"usage bad ", place), out),
+        UsageFault::Modes => draft.put_pieces(&[Text(b"usage modes")], out),
+    }
+}
+
+fn placed<'a>(front: &'a [u8], place: u64) -> [Piece<'a>; 2]
+    ensures { text_of_pieces result ≡ front.now ++ number_text place }
+{
+    [Text(front), Number(place)]
 }
 
 fn config<'a>(name: &'a [u8], line: u64, what: &'a [u8]) -> [Piece<'a>; 6]

@@ -1,6 +1,6 @@
 ghost use Rattle.std.specs.Prelude.{None};
 
-use crate::{LogItem, LogWriter, Tally, Verbosity, render};
+use crate::{LogItem, LogWriter, Tally, UsageFault, Verbosity, render};
 use fk_base::{Bytes, Digest, Failed, Ip4, Moment, Pair, Proto, Purpose, Words};
 use fk_host::{MemSink, Sink};
 use fk_trace::{LogWhy, OpenRecord};
@@ -139,7 +139,36 @@ fn each_line_has_its_text(rt: HostRuntime) -> Result<(), Fail> {
 fn each_fault_has_its_line(rt: HostRuntime) -> Result<(), Fail> {
     let _told: Option<(&Words, &OpenRecord)> = None;
     let rows = [
-        (LogItem::Usage, "usage modes\n"),
+        (
+            LogItem::Usage {
+                fault: UsageFault::Unknown(1),
+            },
+            "usage unknown 1\n",
+        ),
+        (
+            LogItem::Usage {
+                fault: UsageFault::NoValue(2),
+            },
+            "usage value 2\n",
+        ),
+        (
+            LogItem::Usage {
+                fault: UsageFault::Twice(3),
+            },
+            "usage twice 3\n",
+        ),
+        (
+            LogItem::Usage {
+                fault: UsageFault::BadValue(4),
+            },
+            "usage bad 4\n",
+        ),
+        (
+            LogItem::Usage {
+                fault: UsageFault::Modes,
+            },
+            "usage modes\n",
+        ),
         (
             LogItem::BadFile {
                 name: b"access.conf",

@@ -1,0 +1,131 @@
+-- Which counts of faults rose, by the answer of a run.
+use Rattle.std.proofs.Common.{◌≡◌, ◌≢◌, ◌⊎◌, ℕ, Bool, true, false, List, Option, refl, sym, ap, subst, inl, inr}
+use Rattle.fk_base.specs.declared.status.Status.{Status}
+use Rattle.fk_base.specs.declared.status.Status.TheVariants as status
+use Rattle.fk_run.specs.Run.{Ending}
+use Rattle.fk_run.specs.Run.Ending.{AtLimit, AtEnd, AtFeedFault, AtDiskFault, AtWantOfMemory, AtBadLine, AtLongInput, AtReadFault}
+use Rattle.fk_host.specs.Count.{counted}
+use Rattle.fk_log.specs.declared.verbosity.Verbosity.{Verbosity}
+use Rattle.fk_log.specs.Causes.{FailsOnlyAs, FailsSink}
+use Rattle.fk_log.specs.Printing.{SinkView, Prints}
+use Rattle.fk_child.specs.View.{View}
+use Rattle.fk_daemon.specs.declared.task.Task.{Task}
+use Rattle.fk_daemon.specs.Outside.{FeedView, Outside}
+use Rattle.fk_daemon.specs.Serving.{HasStatus, Serves, SaysWhyUnopened}
+use Rattle.fk_command.specs.World.{FilesView, World, LeavesRest}
+use Rattle.fk_command.specs.Faults.{Fault, Says, Tells, fault_line, fault_status}
+use Rattle.fk_command.specs.Faults.Fault.{WrongWords, FileNotHeld, FileNotRead, WrongFile, DiskFails, DamagedLedger, WantsMemory}
+use Rattle.fk_command.specs.Files.{Names, FailsFile, FailsFiles, conf_test, access_test}
+use Rattle.fk_command.specs.Listing.{printed_status}
+use Rattle.fk_command.specs.Causes.{FailsByAnswer}
+use Rattle.fk_command.proofs.Saying.{printed-once, said-once}
+
+-- an answer that is none of the four faults of an object
+pub record Blames (answer : Status) : Type 0 where
+  pub feed : answer ≢ status.FeedFault
+  pub disk : answer ≢ status.DiskFault
+  pub input : answer ≢ status.ReadFault
+
+-- the output's count after a fault was told
+told-sink : (fault : Fault) (old new : SinkView) → Says (fault_line fault) old new → FailsSink (fault_status fault) old.faults new.faults
+told-sink (WrongWords why) old new says = said-once (fault_line (WrongWords why)) old new says
+told-sink (FileNotHeld name) old new says = said-once (fault_line (FileNotHeld name)) old new says
+told-sink (FileNotRead name) old new says = said-once (fault_line (FileNotRead name)) old new says
+told-sink (WrongFile name line what) old new says = said-once (fault_line (WrongFile name line what)) old new says
+told-sink DiskFails old new says = said-once (fault_line DiskFails) old new says
+told-sink (DamagedLedger place) old new says = said-once (fault_line (DamagedLedger place)) old new says
+told-sink WantsMemory old new says = said-once (fault_line WantsMemory) old new says
+
+pub tells-sink : (fault : Fault) (old new : SinkView) (answer : Status) → Tells fault old new answer → FailsSink answer old.faults new.faults
+tells-sink fault old new answer tells = subst (λ (a : Status). FailsSink a old.faults new.faults) (sym tells.answered) (told-sink fault old new tells.said)
+
+-- the output's count after a text was printed
+pub prints-sink : (is_broken : Bool) (text : List ℕ) (old new : SinkView) (answer : Status) → Prints text is_broken old new → answer ≡ printed_status is_broken
+    → FailsSink answer old.faults new.faults
+prints-sink false text old new answer prints is = subst (λ (a : Status). FailsSink a old.faults new.faults) (sym is) prints.1
+prints-sink true text old new answer prints is = subst (λ (a : Status). FailsSink a old.faults new.faults) (sym is) prints.1
+
+-- a count stands still, and the answer is not its fault
+pub still : (fault answer : Status) (old new : ℕ) → answer ≢ fault → new ≡ old → FailsOnlyAs fault answer old new
+still fault answer old new not same = inr (not, same)
+
+file-count : (test : List ℕ → Option Fault) (name : List ℕ) (fault : Fault) (old new : FilesView) → FailsFile test name fault old new
+    → FailsOnlyAs status.FileFault (fault_status fault) old.faults new.faults
+file-count test name (FileNotHeld named) old new fails = inl (refl, ap (λ (files : FilesView). files.faults) fails.1)
+file-count test name (FileNotRead named) old new fails = inl (refl, ap (λ (files : FilesView). files.faults) fails.1)
+file-count test name (WrongFile named line what) old new fails = inr (λ e. cc, ap (λ (files : FilesView). files.faults) fails.0)
+file-count test name WantsMemory old new fails = inr (λ e. cc, ap (λ (files : FilesView). files.faults) fails)
+file-count test name (WrongWords why) old new fails = absurd fails
+file-count test name DiskFails old new fails = absurd fails
+file-count test name (DamagedLedger place) old new fails = absurd fails
+
+file-blames : (test : List ℕ → Option Fault) (name : List ℕ) (fault : Fault) (old new : FilesView) → FailsFile test name fault old new → Blames (fault_status fault)
+file-blames test name (FileNotHeld named) old new fails = record { feed = λ e. cc; disk = λ e. cc; input = λ e. cc }
+file-blames test name (FileNotRead named) old new fails = record { feed = λ e. cc; disk = λ e. cc; input = λ e. cc }
+file-blames test name (WrongFile named line what) old new fails = record { feed = λ e. cc; disk = λ e. cc; input = λ e. cc }
+file-blames test name WantsMemory old new fails = record { feed = λ e. cc; disk = λ e. cc; input = λ e. cc }
+file-blames test name (WrongWords why) old new fails = absurd fails
+file-blames test name DiskFails old new fails = absurd fails
+file-blames test name (DamagedLedger place) old new fails = absurd fails
+
+files-count : (names : Names) (fault : Fault) (old new : FilesView) → FailsFiles names fault old new → FailsOnlyAs status.FileFault (fault_status fault) old.faults new.faults
+files-count names fault old new fails =
+    elim fails [
+      | inl conf ↦ file-count (conf_test names.conf) names.conf fault old new conf
+      | inr access ↦ file-count (access_test names.access) names.access fault old new access.fails
+    ]
+
+files-blame : (names : Names) (fault : Fault) (old new : FilesView) → FailsFiles names fault old new → Blames (fault_status fault)
+files-blame names fault old new fails =
+    elim fails [
+      | inl conf ↦ file-blames (conf_test names.conf) names.conf fault old new conf
+      | inr access ↦ file-blames (access_test names.access) names.access fault old new access.fails
+    ]
+
+-- the counts after the fault of a file was told
+pub files-told : (names : Names) (fault : Fault) (answer : Status) (old new : World) → FailsFiles names fault old.files new.files → LeavesRest old new
+    → Tells fault old.outside.sink new.outside.sink answer → FailsByAnswer answer old new
+files-told names fault answer old new fails rest tells =
+    let blames : Blames answer = subst Blames (sym tells.answered) (files-blame names fault old.files new.files fails) in
+    record {
+      files = subst (λ (a : Status). FailsOnlyAs status.FileFault a old.files.faults new.files.faults) (sym tells.answered) (files-count names fault old.files new.files fails);
+      feed = inr (blames.feed, ap (λ (feed : FeedView). feed.faults) rest.feed);
+      disk = inr (blames.disk, rest.host.faults);
+      input = inr (blames.input, ap (λ input. input.faults) rest.input);
+      output = tells-sink fault old.outside.sink new.outside.sink answer tells;
+    }
+
+-- what serving can answer
+run-answers : (ending : Ending) (is_broken : Bool) (answer : Status) → HasStatus ending is_broken answer → (answer ≢ status.FileFault) × (answer ≢ status.ReadFault)
+run-answers AtLimit false answer is = (λ e. let f = is in cc, λ e. let f = is in cc)
+run-answers AtLimit true answer is = (λ e. let f = is in cc, λ e. let f = is in cc)
+run-answers AtEnd false answer is = (λ e. let f = is in cc, λ e. let f = is in cc)
+run-answers AtEnd true answer is = (λ e. let f = is in cc, λ e. let f = is in cc)
+run-answers AtFeedFault is_broken answer is = (λ e. let f = is in cc, λ e. let f = is in cc)
+run-answers AtDiskFault is_broken answer is = (λ e. let f = is in cc, λ e. let f = is in cc)
+run-answers AtWantOfMemory is_broken answer is = (λ e. let f = is in cc, λ e. let f = is in cc)
+run-answers (AtBadLine line) is_broken answer is = absurd is
+run-answers (AtLongInput line) is_broken answer is = absurd is
+run-answers AtReadFault is_broken answer is = absurd is
+
+none-answers : (verbosity : Verbosity) (answer : Status) (is_broken : Bool) (old new : Outside) → SaysWhyUnopened verbosity answer is_broken old new
+    → (answer ≢ status.FileFault) × (answer ≢ status.ReadFault)
+none-answers verbosity status.DiskFault is_broken old new why = (λ e. cc, λ e. cc)
+none-answers verbosity status.Damaged is_broken old new why = (λ e. cc, λ e. cc)
+none-answers verbosity status.NoMemory is_broken old new why = (λ e. cc, λ e. cc)
+none-answers verbosity status.Done is_broken old new why = absurd why
+none-answers verbosity status.Usage is_broken old new why = absurd why
+none-answers verbosity status.Config is_broken old new why = absurd why
+none-answers verbosity status.FileFault is_broken old new why = absurd why
+none-answers verbosity status.FeedFault is_broken old new why = absurd why
+none-answers verbosity status.SinkFault is_broken old new why = absurd why
+none-answers verbosity status.ReadFault is_broken old new why = absurd why
+none-answers verbosity status.LinkFault is_broken old new why = absurd why
+none-answers verbosity status.EntropyFault is_broken old new why = absurd why
+
+pub serving-answers : (task : Task) (old new : Outside) (answer : Status) → Serves task old new answer → (answer ≢ status.FileFault) × (answer ≢ status.ReadFault)
+serving-answers task old new answer serves =
+    elim serves [
+      | inl run ↦ run-answers run.account.run.ending run.is_broken answer run.answered
+      | inr none ↦ none-answers task.verbosity answer none.is_broken old new none.why
+    ]

@@ -1,0 +1,65 @@
+-- What the contracts of this crate's private functions speak of. No public contract cites it, so no caller has to believe it.
+use Rattle.std.specs.Prelude.{ℕ, Bool, false, not, List, map, ◌==◌}
+use Rattle.std.specs.List.{filter, list_any}
+use Rattle.fk_trace.specs.declared.change.Change.{Change}
+use Rattle.fk_trace.specs.declared.change.Change.TheVariants.{Open, Done}
+use Rattle.fk_trace.specs.declared.change.OpenRecord.{OpenRecord}
+use Rattle.fk_trace.specs.Ledger.{opens}
+use Rattle.fk_log.specs.Line.{Line}
+use Rattle.fk_log.specs.Line.Line.{ListedLine}
+use Rattle.fk_conf.specs.declared.command.Command.{Command}
+use Rattle.fk_conf.specs.declared.command.Command.TheVariants as command
+use Rattle.fk_child.specs.View.{View}
+use Rattle.fk_daemon.specs.Account.{AreLimits}
+use Rattle.fk_log.specs.Printing.{SinkView}
+use Rattle.fk_daemon.specs.Outside.{FeedView, Outside}
+use Rattle.fk_command.specs.declared.files.FileNames.{FileNames}
+use Rattle.fk_command.specs.declared.refusal.Refusal.{Refusal}
+use Rattle.fk_command.specs.declared.refusal.Refusal.TheVariants as refusal
+use Rattle.fk_command.specs.World.{FilesView, InputView, World}
+use Rattle.fk_command.specs.Faults.{Fault}
+use Rattle.fk_command.specs.Faults.Fault.{WrongWords, FileNotHeld, FileNotRead, WrongFile, DiskFails, DamagedLedger, WantsMemory}
+use Rattle.fk_command.specs.Files.{Names}
+
+abbrev pub fault_of : Refusal → Fault
+fault_of (refusal.Words fault) = WrongWords fault
+fault_of (refusal.Missing name) = FileNotHeld name.now
+fault_of (refusal.Failed name) = FileNotRead name.now
+fault_of (refusal.BadFile name line what) = WrongFile name.now line what.now
+fault_of refusal.Disk = DiskFails
+fault_of (refusal.Damaged place) = DamagedLedger place
+fault_of refusal.NoMemory = WantsMemory
+
+abbrev pub names_of : FileNames → Names
+names_of names = record { conf = names.conf.now; access = names.access.now }
+
+-- a world of these, where a call is handed all but the input
+abbrev pub served_in : InputView → FilesView → Outside → World
+served_in input files outside = record { files = files; input = input; outside = outside }
+
+-- a world of these, where a call is handed the host and the output alone
+abbrev pub listed_in : FilesView → FeedView → InputView → View → SinkView → World
+listed_in files feed input host sink = record { files = files; input = input; outside = record { feed = feed; host = host; sink = sink } }
+
+-- what the words of this program may ask for: no command of another program, and no limits that are none
+abbrev pub IsDaemonCommand : Command → Type 0
+IsDaemonCommand (command.Serve conf access packets turns verbose) = AreLimits (record { packets = packets; turns = turns })
+IsDaemonCommand (command.Trial conf access quiet verbose) = Unit {0}
+IsDaemonCommand command.List = Unit {0}
+IsDaemonCommand (command.Send send) = ⊥
+IsDaemonCommand command.KeyGen = ⊥
+IsDaemonCommand command.Help = Unit {0}
+IsDaemonCommand command.Version = Unit {0}
+
+-- the change closes the record of this number for good
+abbrev pub settles : ℕ → Change → Bool
+settles id (Open item) = false
+settles id (Done done) = done == id
+
+-- no change of the ledger closes the record for good
+abbrev pub is_live : List Change → OpenRecord → Bool
+is_live ledger item = not (list_any (settles item.id) ledger)
+
+-- the lines of those of these changes that open what is live in the ledger
+abbrev pub listed_lines : List Change → List Change → List Line
+listed_lines ledger changes = map ListedLine (filter (is_live ledger) (opens changes))

@@ -1,0 +1,95 @@
+-- What a run of the program does, whole, by what its words ask for.
+use Rattle.std.specs.Prelude.{◌≡◌, ◌⊎◌, ℕ, Bool, true, false, List}
+use Rattle.fk_base.specs.declared.status.Status.{Status}
+use Rattle.fk_run.specs.declared.limits.Limits.{Limits}
+use Rattle.fk_log.specs.declared.verbosity.Verbosity.{Verbosity}
+use Rattle.fk_log.specs.declared.verbosity.Verbosity.TheVariants as verbosity
+use Rattle.fk_log.specs.declared.usage_fault.UsageFault.TheVariants as usage
+use Rattle.fk_conf.specs.declared.command.Command.{Command}
+use Rattle.fk_conf.specs.declared.command.Command.TheVariants as command
+use Rattle.fk_conf.specs.declared.tool.Tool.TheVariants.{Daemon}
+use Rattle.fk_conf.specs.declared.word_fault.WordFault.{WordFault}
+use Rattle.fk_conf.specs.declared.word_fault.WordFault.TheVariants as word
+use Rattle.fk_conf.specs.ReadsWords.{ReadsWords, IsWordErr}
+use Rattle.fk_daemon.specs.declared.task.Task.{Task}
+use Rattle.fk_log.specs.Printing.{Prints}
+use Rattle.fk_daemon.specs.Serving.{Serves}
+use Rattle.fk_command.specs.declared.help.TheConstants.{HELP, VERSION}
+use Rattle.fk_command.specs.World.{World, LeavesRest}
+use Rattle.fk_command.specs.Faults.{Fault, Tells}
+use Rattle.fk_command.specs.Faults.Fault.{WrongWords, WantsMemory}
+use Rattle.fk_command.specs.Files.{Names, ReadsFiles, FailsFiles}
+use Rattle.fk_command.specs.Listing.{Lists, printed_status}
+
+-- both files were read, and the feed's turns were served by them under these limits
+pub record ServesByFiles (names : Names) (limits : Limits) (verbosity : Verbosity) (old new : World) (answer : Status) : Type 0 where
+  pub task : Task
+  pub limited : task.limits ≡ limits
+  pub told : task.verbosity ≡ verbosity
+  pub files : ReadsFiles names task.policy.conf.now task.policy.access.now old.files new.files
+  pub input : new.input ≡ old.input
+  pub serves : Serves task old.outside new.outside answer
+
+-- the first fault of the two files was told, and nothing else was asked for
+pub record RefusesFiles (names : Names) (old new : World) (answer : Status) : Type 0 where
+  pub fault : Fault
+  pub fails : FailsFiles names fault old.files new.files
+  pub rest : LeavesRest old new
+  pub tells : Tells fault old.outside.sink new.outside.sink answer
+
+-- this text was printed, and nothing else was asked for
+pub record PrintsOnly (text : List ℕ) (old new : World) (answer : Status) : Type 0 where
+  pub files : new.files ≡ old.files
+  pub rest : LeavesRest old new
+  pub is_broken : Bool
+  pub printed : Prints text is_broken old.outside.sink new.outside.sink
+  pub answered : answer ≡ printed_status is_broken
+
+-- a trial is not run yet, and is refused as words of no command are
+pub record RefusesTrial (old new : World) (answer : Status) : Type 0 where
+  pub files : new.files ≡ old.files
+  pub rest : LeavesRest old new
+  pub tells : Tells (WrongWords usage.Modes) old.outside.sink new.outside.sink answer
+
+abbrev pub serving_verbosity : Bool → Verbosity
+serving_verbosity false = verbosity.Normal
+serving_verbosity true = verbosity.Verbose
+
+-- what a run does for a command; one of another program is none of this one's
+abbrev pub Runs : Command → World → World → Status → Type 0
+Runs (command.Serve conf access packets turns verbose) old new answer =
+    let names : Names = record { conf = conf; access = access } in
+    let limits : Limits = record { packets = packets; turns = turns } in
+    ServesByFiles names limits (serving_verbosity verbose) old new answer ⊎ RefusesFiles names old new answer
+Runs (command.Trial conf access quiet verbose) old new answer = RefusesTrial old new answer
+Runs command.List old new answer = Lists old new answer
+Runs (command.Send send) old new answer = ⊥
+Runs command.KeyGen old new answer = ⊥
+Runs command.Help old new answer = PrintsOnly HELP.now old new answer
+Runs command.Version old new answer = PrintsOnly VERSION.now old new answer
+
+pub record RunsCommand (words : List (List ℕ)) (old new : World) (answer : Status) : Type 0 where
+  pub command : Command
+  pub reads : ReadsWords Daemon words command
+  pub runs : Runs command old new answer
+
+-- the fault of words, as it is told
+abbrev pub fault_of_words : WordFault → Fault
+fault_of_words (word.Unknown place) = WrongWords (usage.Unknown place)
+fault_of_words (word.NoValue place) = WrongWords (usage.NoValue place)
+fault_of_words (word.Twice place) = WrongWords (usage.Twice place)
+fault_of_words (word.BadValue place) = WrongWords (usage.BadValue place)
+fault_of_words word.Modes = WrongWords usage.Modes
+fault_of_words word.NoMemory = WantsMemory
+
+-- the words have no command, or no memory was had for one, and nothing but the output was asked
+pub record RefusesWords (words : List (List ℕ)) (old new : World) (answer : Status) : Type 0 where
+  pub fault : WordFault
+  pub why : IsWordErr Daemon words fault
+  pub files : new.files ≡ old.files
+  pub rest : LeavesRest old new
+  pub tells : Tells (fault_of_words fault) old.outside.sink new.outside.sink answer
+
+-- a run of the program on these words
+abbrev pub RunsWords : List (List ℕ) → World → World → Status → Type 0
+RunsWords words old new answer = RunsCommand words old new answer ⊎ RefusesWords words old new answer

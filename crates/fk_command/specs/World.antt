@@ -1,0 +1,46 @@
+-- What the objects that a run of the program is handed say of themselves.
+use Rattle.std.specs.Prelude.{◌≡◌, ◌↔◌, ℕ, List, Option}
+use Rattle.fk_host.specs.declared.files.HeldFile.{HeldFile}
+use Rattle.fk_host.specs.Disk.{Areas}
+use Rattle.fk_child.specs.View.{View}
+use Rattle.fk_daemon.specs.Outside.{Outside}
+
+pub record FilesView : Type 0 where
+  -- what is held, where they tell
+  pub held : Option (List HeldFile)
+  pub faults : ℕ
+
+pub record InputView : Type 0 where
+  -- the bytes that it has left, where it tells
+  pub left : Option (List ℕ)
+  pub faults : ℕ
+
+pub record World : Type 1 where
+  pub files : FilesView
+  pub input : InputView
+  -- the feed, the host and the output
+  pub outside : Outside
+
+abbrev pub files_by : {F : Type 0} → (F → Option (List HeldFile)) → (F → ℕ) → F → FilesView
+files_by held faults files = record { held = held files; faults = faults files }
+
+abbrev pub input_by : {I : Type 0} → (I → Option (List ℕ)) → (I → ℕ) → I → InputView
+input_by left faults input = record { left = left input; faults = faults input }
+
+-- all together, of the objects by what they mean
+abbrev pub world_by : {F E H I K : Type 0} → (F → FilesView) → (E → H → K → Outside) → (I → InputView) → F → E → H → I → K → World
+world_by files_view outside input_view files feed host input sink =
+    record { files = files_view files; input = input_view input; outside = outside feed host sink }
+
+-- the host says what it said
+pub record SaysTheSame (old new : View) : Type 0 where
+  pub told : new.told ≡ old.told
+  pub images : (k : ℕ) (image : Areas) → new.images k image ↔ old.images k image
+  pub faults : new.faults ≡ old.faults
+  pub above : new.above ≡ old.above
+
+-- nothing was asked of the feed, the host and the input
+pub record LeavesRest (old new : World) : Type 0 where
+  pub feed : new.outside.feed ≡ old.outside.feed
+  pub host : SaysTheSame old.outside.host new.outside.host
+  pub input : new.input ≡ old.input

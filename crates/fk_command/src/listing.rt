@@ -1,0 +1,83 @@
+//! The live records are listed.
+ghost use Rattle.std.specs.Prelude.{◌≡◌, ◌∷◌, [], Bool};
+ghost use Rattle.std.specs.List.{list_any};
+ghost use Rattle.fk_log.specs.Writing.{Logs, output};
+ghost use Rattle.fk_child.specs.View.{view_of};
+ghost use Rattle.fk_log.specs.Printing.{Prints, sink_by};
+ghost use Rattle.fk_command.specs.Causes.{FailsByAnswer};
+ghost use Rattle.fk_command.specs.Listing.{Lists, list_text, printed_status};
+ghost use Rattle.fk_command.specs.Private.{listed_in, listed_lines, settles};
+ghost use Rattle.fk_command.specs.World.{FilesView, InputView};
+ghost use Rattle.fk_daemon.specs.Outside.{FeedView};
+
+use crate::refusal::{Refusal, refuse};
+use fk_base::Status;
+use fk_host::{Host, Sink};
+use fk_ledger::{Ledger, LedgerErr};
+use fk_log::{LogItem, LogWriter, Verbosity, adjoining_lines_log_both, no_lines_log_nothing};
+use fk_trace::Change;
+use std::alloc::Global;
+
+/// Prints the live records of the ledger that the disk holds. All memory is taken before the first line is written.
+pub(crate) fn list_records<H: Host, K: Sink>(alloc: Global, host: &mut H, out: &mut K) -> Status
+    ensures lists { let view = view_of H.told H.may_leave H.faults H.above in let sink = sink_by K.written K.faults in
+        (files : FilesView) (feed : FeedView) (input : InputView)
+        → Lists (listed_in files feed input (view host.old) (sink out.old)) (listed_in files feed input (view host.new) (sink out.new)) result }
+    ensures counts { let view = view_of H.told H.may_leave H.faults H.above in let sink = sink_by K.written K.faults in
+        (files : FilesView) (feed : FeedView) (input : InputView)
+        → FailsByAnswer result (listed_in files feed input (view host.old) (sink out.old)) (listed_in files feed input (view host.new) (sink out.new)) }
+{
+    match Ledger::view(alloc, host) {
+        Ok(changes) => print_live(&changes, out),
+        Err(LedgerErr::Disk) => refuse(Refusal::Disk, out),
+        Err(LedgerErr::Damaged(place)) => refuse(Refusal::Damaged(place), out),
+        Err(LedgerErr::NoMemory) => refuse(Refusal::NoMemory, out),
+    }
+}
+
+/// Prints a line for each live record.
+fn print_live<K: Sink>(changes: &[Change], out: &mut K) -> Status
+    ensures { let at = sink_by K.written K.faults in
+        (is_broken : Bool) × Prints (list_text changes.now) is_broken (at out.old) (at out.new) × (result ≡ printed_status is_broken) }
+{
+    no_lines_log_nothing();
+    adjoining_lines_log_both();
+    let mut log = LogWriter::new(Verbosity::Normal);
+    for change in changes {
+        log_opened(changes, change, &mut log, out);
+    }
+    if log.is_broken() {
+        Status::SinkFault
+    } else {
+        Status::Done
+    }
+}
+
+/// Logs the record that the change opens, where it is live.
+fn log_opened<K: Sink>(changes: &[Change], change: &Change, log: &mut LogWriter, out: &mut K)
+    ensures { Logs (listed_lines changes.now (change.now ∷ [])) (output log.old (K.written out.old) (K.faults out.old))
+        (output log.new (K.written out.new) (K.faults out.new)) }
+{
+    no_lines_log_nothing();
+    if let Change::Open(item) = change {
+        if !is_done(changes, item.id) {
+            log.add(&LogItem::Listed { item }, out);
+        }
+    }
+}
+
+/// Whether the record of this number is closed for good.
+fn is_done(changes: &[Change], id: u64) -> bool
+    ensures { result ≡ list_any (settles id) changes.now }
+{
+    changes.iter().any(|change| settles(change, id))
+}
+
+fn settles(change: &Change, id: u64) -> bool
+    ensures { result ≡ settles id change.now }
+{
+    match change {
+        Change::Open(_) => false,
+        Change::Done(done) => *done == id,
+    }
+}

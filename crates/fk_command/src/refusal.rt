@@ -1,0 +1,86 @@
+//! Why a run comes to nothing, and the one line that says so.
+ghost use Rattle.std.specs.Prelude.{◌≡◌, Some};
+ghost use Rattle.fk_log.specs.Item.{line_of};
+ghost use Rattle.fk_log.specs.Printing.{sink_by};
+ghost use Rattle.fk_command.specs.Faults.{Says, Tells};
+ghost use Rattle.fk_command.specs.Running.{fault_of_words};
+ghost use Rattle.fk_command.specs.Private.{fault_of};
+
+use fk_base::Status;
+use fk_conf::WordFault;
+use fk_host::Sink;
+use fk_log::{LogItem, UsageFault, render};
+
+/// Why a run comes to nothing.
+#[derive(Clone, Copy)]
+pub(crate) enum Refusal<'a> {
+    Words(UsageFault),
+    /// The file of this name is not held.
+    Missing(&'a [u8]),
+    /// The file of this name could not be read.
+    Failed(&'a [u8]),
+    /// What is wrong in this line of the file of this name; lines are numbered from 1.
+    BadFile {
+        name: &'a [u8],
+        line: u32,
+        what: &'static [u8],
+    },
+    Disk,
+    /// The journal is damaged at this place.
+    Damaged(u64),
+    NoMemory,
+}
+
+/// The refusal of words that are no command.
+pub(crate) fn refusal_of_words<'a>(fault: WordFault) -> Refusal<'a>
+    ensures { fault_of result ≡ fault_of_words fault }
+{
+    match fault {
+        WordFault::Unknown(place) => Refusal::Words(UsageFault::Unknown(place as u64)),
+        WordFault::NoValue(place) => Refusal::Words(UsageFault::NoValue(place as u64)),
+        WordFault::Twice(place) => Refusal::Words(UsageFault::Twice(place as u64)),
+        WordFault::BadValue(place) => Refusal::Words(UsageFault::BadValue(place as u64)),
+        WordFault::Modes => Refusal::Words(UsageFault::Modes),
+        WordFault::NoMemory => Refusal::NoMemory,
+    }
+}
+
+/// Says the refusal. Where memory is wanting nothing is written.
+pub(crate) fn refuse<K: Sink>(refusal: Refusal<'_>, out: &mut K) -> Status
+    ensures { let at = sink_by K.written K.faults in Tells (fault_of refusal.entry) (at out.old) (at out.new) result }
+{
+    match refusal {
+        Refusal::Words(fault) => {
+            say(&LogItem::Usage { fault }, out);
+            Status::Usage
+        }
+        Refusal::Missing(name) => {
+            say(&LogItem::FileMissing { name }, out);
+            Status::FileFault
+        }
+        Refusal::Failed(name) => {
+            say(&LogItem::FileFailed { name }, out);
+            Status::FileFault
+        }
+        Refusal::BadFile { name, line, what } => {
+            say(&LogItem::BadFile { name, line, what }, out);
+            Status::Config
+        }
+        Refusal::Disk => {
+            say(&LogItem::DiskFailed, out);
+            Status::DiskFault
+        }
+        Refusal::Damaged(place) => {
+            say(&LogItem::Damaged { place }, out);
+            Status::Damaged
+        }
+        Refusal::NoMemory => Status::NoMemory,
+    }
+}
+
+/// Writes the one line of a run. The run's fault hides that of the output.
+fn say<K: Sink>(item: &LogItem<'_>, out: &mut K)
+    ensures { let at = sink_by K.written K.faults in Says (Some (line_of item.now)) (at out.old) (at out.new) }
+{
+    let _said = render(item, out);
+}
