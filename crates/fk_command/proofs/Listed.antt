@@ -7,7 +7,7 @@ use Rattle.fk_trace.specs.declared.change.Change.{Change}
 use Rattle.fk_trace.specs.declared.change.Change.TheVariants.{Open, Done}
 use Rattle.fk_trace.specs.declared.change.OpenRecord.{OpenRecord}
 use Rattle.fk_trace.specs.Ledger.{opens, dones, live}
-use Rattle.fk_trace.proofs.Turns.{opens-append}
+use Rattle.fk_trace.proofs.Ledgers.{opens-append}
 use Rattle.fk_log.specs.declared.verbosity.Verbosity.TheVariants.{Normal}
 use Rattle.fk_log.specs.Line.{Line, text_of_lines}
 use Rattle.fk_log.specs.Line.Line.{ListedLine}
