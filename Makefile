@@ -3,7 +3,7 @@
 PREFIX ?= /usr/local
 export PREFIX
 
-PROGRAMS = fwknopd
+PROGRAMS = fwknopd fwknop
 
 # the words of the sample trial: the pair and the seconds that are granted, and the two commands
 TRIAL = --trial tcp/22 30 /bin/o /bin/c
