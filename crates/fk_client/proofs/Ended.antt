@@ -10,13 +10,12 @@ use Rattle.fk_log.specs.Causes.{FailsOnlyAs, FailsSink}
 use Rattle.fk_conf.specs.declared.command.Command.{Command}
 use Rattle.fk_conf.specs.declared.command.Command.TheVariants as command
 use Rattle.fk_conf.specs.declared.command.SendWords.{SendWords}
-use Rattle.fk_conf.specs.declared.option_set.OptionSet.{OptionSet}
 use Rattle.fk_conf.specs.declared.tool.Tool.TheVariants.{Client}
 use Rattle.fk_conf.specs.declared.word_fault.WordFault.{WordFault}
 use Rattle.fk_conf.specs.declared.word_fault.WordFault.TheVariants as word
 use Rattle.fk_conf.specs.RcFault.{rc_fault}
 use Rattle.fk_conf.specs.ReadsRc.{ReadsRc}
-use Rattle.fk_conf.specs.ReadsWords.{IsWordErr, set_read}
+use Rattle.fk_conf.specs.ReadsWords.{IsWordErr, ReadsWords, set_read}
 use Rattle.fk_client.specs.declared.need_fault.NeedFault.{NeedFault}
 use Rattle.fk_client.specs.declared.sent.Packet.{Packet}
 use Rattle.fk_client.specs.declared.settled.Settings.{Settings}
@@ -27,7 +26,7 @@ use Rattle.fk_client.specs.Outside.{FilesView, Outside}
 use Rattle.fk_client.specs.Ready.{CountsNone, EndsWell, IsReadyFor, IsReadyToSend, MeetsNoFault}
 use Rattle.fk_client.specs.Running.{Delivers, FailsToSettle, MakesKeys, RunsClient, RunsSend, Runs, SendsBy}
 use Rattle.fk_client.specs.Settle.{need_fault}
-use Rattle.fk_client.proofs.Asked.{AskAlike, SameSend, ask-alike}
+use Rattle.fk_conf.specs.CommandOf.{AskAlike, SaysSame}
 use Rattle.fk_client.proofs.Needs.{needs-same}
 
 -- the answer is no fault of an object
@@ -73,7 +72,7 @@ none-wrong : {X : Type 0} (fault : Option X) (x : X) → fault ≡ None → faul
 none-wrong fault x none wrong = cc
 
 -- no fault of what is read is told
-settles-ends : (send asked : SendWords) (fault : Fault) (old new : FilesView) → SameSend send asked → IsReadyToSend asked old → FailsToSettle send fault old new
+settles-ends : (send asked : SendWords) (fault : Fault) (old new : FilesView) → SaysSame send asked → IsReadyToSend asked old → FailsToSettle send fault old new
     → IsCalm (fault_status fault) → EndsWell (fault_status fault)
 settles-ends send asked (FileNotHeld name) old new same ready fails calm = absurd (calm.files refl)
 settles-ends send asked (FileNotRead name) old new same ready fails calm = absurd (calm.files refl)
@@ -110,7 +109,7 @@ settled-ends is_shown settings moment old new answer sends calm =
       ]
     ]
 
-send-ends : (send asked : SendWords) (moment : ℕ) (old new : Outside) (answer : Status) → SameSend send asked → IsReadyToSend asked old.files
+send-ends : (send asked : SendWords) (moment : ℕ) (old new : Outside) (answer : Status) → SaysSame send asked → IsReadyToSend asked old.files
     → RunsSend send moment old new answer → IsCalm answer → EndsWell answer
 send-ends send asked moment old new answer same ready runs calm =
     elim runs [
@@ -141,23 +140,24 @@ asked-ends (command.Serve conf access packets turns verbose) asked moment old ne
 asked-ends (command.Trial conf access quiet verbose) asked moment old new answer alike ready runs calm = absurd runs
 asked-ends command.List asked moment old new answer alike ready runs calm = absurd runs
 
-word-ends : (words : List (List ℕ)) (fault : WordFault) (set : OptionSet) (answer : Status) → IsWordErr Client words fault → set_read Client words ≡ Ok set
+word-ends : (words : List (List ℕ)) (fault : WordFault) (asked : Command) (answer : Status) → IsWordErr Client words fault → ReadsWords Client words asked
     → answer ≡ fault_status (fault_of_words fault) → EndsWell answer
-word-ends words word.NoMemory set answer why reads is = inr is
-word-ends words (word.Unknown place) set answer why reads is = absurd cc
-word-ends words (word.NoValue place) set answer why reads is = absurd cc
-word-ends words (word.Twice place) set answer why reads is = absurd cc
-word-ends words (word.BadValue place) set answer why reads is = absurd cc
-word-ends words word.Modes set answer why reads is = absurd cc
+word-ends words word.NoMemory asked answer why reads is = inr is
+word-ends words (word.Unknown place) asked answer why reads is = let read = reads.reads in absurd cc
+word-ends words (word.NoValue place) asked answer why reads is = let read = reads.reads in absurd cc
+word-ends words (word.Twice place) asked answer why reads is = let read = reads.reads in absurd cc
+word-ends words (word.BadValue place) asked answer why reads is = let read = reads.reads in absurd cc
+word-ends words word.Modes asked answer why reads is = let read = reads.reads in absurd cc
 
 -- a client in whose way nothing stands ends well
 pub client-ends : (words : List (List ℕ)) (moment : ℕ) (old new : Outside) (answer : Status) → RunsClient words moment old new answer
-    → FailsByAnswer answer old new → MeetsNoFault words old new → EndsWell answer
-client-ends words moment old new answer runs fails meets =
+    → FailsByAnswer answer old new → ((a b : Command) → ReadsWords Client words a → ReadsWords Client words b → AskAlike a b)
+    → MeetsNoFault words old new → EndsWell answer
+client-ends words moment old new answer runs fails alike meets =
     let quiet : IsCalm answer = calm answer old new fails meets.counts in
     elim runs [
-      | inl refuses ↦ word-ends words refuses.fault meets.reads.set answer refuses.first meets.reads.reads refuses.told.answered
-      | inr obeys ↦ asked-ends obeys.command meets.command moment old new answer (ask-alike words obeys.command meets.command obeys.reads meets.reads) meets.ready obeys.runs quiet
+      | inl refuses ↦ word-ends words refuses.fault meets.command answer refuses.first meets.reads refuses.told.answered
+      | inr obeys ↦ asked-ends obeys.command meets.command moment old new answer (alike obeys.command meets.command obeys.reads meets.reads) meets.ready obeys.runs quiet
     ]
 
 -- usage
@@ -217,11 +217,11 @@ no-usage (command.Serve conf access packets turns verbose) moment old new answer
 no-usage (command.Trial conf access quiet verbose) moment old new answer runs = absurd runs
 no-usage command.List moment old new answer runs = absurd runs
 
-err-of : (read : Result OptionSet WordFault) (fault : WordFault) → read ≡ Err fault → IsErr read
+err-of : {T : Type 0} (read : Result T WordFault) (fault : WordFault) → read ≡ Err fault → IsErr read
 err-of (Ok set) fault is = absurd cc
 err-of (Err e) fault is = refl
 
-ok-no_err : (read : Result OptionSet WordFault) (set : OptionSet) → read ≡ Ok set → IsErr read → ⊥
+ok-no_err : {T : Type 0} (read : Result T WordFault) (set : T) → read ≡ Ok set → IsErr read → ⊥
 ok-no_err (Ok set) other is wrong = cc
 ok-no_err (Err e) other is wrong = cc
 

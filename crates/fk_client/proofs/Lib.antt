@@ -1,5 +1,5 @@
-pub mod Asked
 pub mod Counting
+pub mod Delivering
 pub mod Ended
 pub mod Needs
 pub mod Saying

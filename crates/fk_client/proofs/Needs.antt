@@ -15,7 +15,7 @@ use Rattle.fk_conf.specs.declared.rc_stanza.RcStanza.{RcStanza}
 use Rattle.fk_client.specs.declared.need_fault.NeedFault.{NeedFault}
 use Rattle.fk_client.specs.declared.need_fault.NeedFault.TheVariants.{NoStanza, NoServer, NoAccess, NoAllow, NoKey, NoHmacKey}
 use Rattle.fk_client.specs.Settle.{address_of, from_file, given_by, need_fault, pairs_of, server_of, stanza_named}
-use Rattle.fk_client.proofs.Asked.{SameSend}
+use Rattle.fk_conf.specs.CommandOf.{SaysSame}
 
 -- what is needed of a stanza
 record Plain : Type 0 where
@@ -89,18 +89,18 @@ named-same x y m n files names =
     ∙ ap is_some (found-plain m x ∙ ap (plain_named m) files ∙ ap (λ (name : List ℕ). plain_named name (map plain y)) names ∙ sym (found-plain n y))
     ∙ sym (some-plain (stanza_named n y))
 
-server-same : (x y : List RcStanza) (a b : SendWords) → map plain x ≡ map plain y → SameSend a b → server_of x a ≡ server_of y b
+server-same : (x y : List RcStanza) (a b : SendWords) → map plain x ≡ map plain y → SaysSame a b → server_of x a ≡ server_of y b
 server-same x y a b files same =
     ap (λ o. option_or o (option_or (from_file (λ s. s.server) x a) (if a.print then Some [] else None))) same.server
     ∙ ap (λ o. option_or b.server (option_or o (if a.print then Some [] else None))) (from-same (λ p. p.server) x y a b files same.name)
     ∙ ap (λ (shown : Bool). option_or b.server (option_or (from_file (λ s. s.server) y b) (if shown then Some [] else None))) same.print
 
-pairs-same : (x y : List RcStanza) (a b : SendWords) → map plain x ≡ map plain y → SameSend a b → pairs_of x a ≡ pairs_of y b
+pairs-same : (x y : List RcStanza) (a b : SendWords) → map plain x ≡ map plain y → SaysSame a b → pairs_of x a ≡ pairs_of y b
 pairs-same x y a b files same =
     ap (λ o. option_or o (from_file (λ s. s.pairs) x a)) same.pairs
     ∙ ap (λ o. option_or b.pairs o) (from-same (λ p. p.pairs) x y a b files same.name)
 
-address-same : (x y : List RcStanza) (a b : SendWords) → map plain x ≡ map plain y → SameSend a b → address_of x a ≡ address_of y b
+address-same : (x y : List RcStanza) (a b : SendWords) → map plain x ≡ map plain y → SaysSame a b → address_of x a ≡ address_of y b
 address-same x y a b files same =
     ap (λ o. option_or o (from_file (λ s. s.allow) x a)) same.allow
     ∙ ap (λ o. option_or b.allow o) (from-same (λ p. p.allow) x y a b files same.name)
@@ -112,7 +112,7 @@ first-same a b c d e f a' b' c' d' e' f' p q r s t u =
     λ i. first_failed ((p i, NoStanza) ∷ (q i, NoServer) ∷ (r i, NoAccess) ∷ (s i, NoAllow) ∷ (t i, NoKey) ∷ (u i, NoHmacKey) ∷ [])
 
 -- the same text and words that say the same lack the same
-pub needs-same : (text : List ℕ) (x y : List RcStanza) (a b : SendWords) → ReadsRc text x → ReadsRc text y → SameSend a b → need_fault x a ≡ need_fault y b
+pub needs-same : (text : List ℕ) (x y : List RcStanza) (a b : SendWords) → ReadsRc text x → ReadsRc text y → SaysSame a b → need_fault x a ≡ need_fault y b
 needs-same text x y a b s t same =
     let files : map plain x ≡ map plain y = plains-same (rc_stanzas text) x y s.each t.each in
     first-same _ _ _ _ _ _ _ _ _ _ _ _

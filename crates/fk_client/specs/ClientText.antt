@@ -31,10 +31,13 @@ entropy_text = line_of_pieces (codes "entropy failed" ∷ [])
 abbrev pub link_text : List ℕ
 link_text = line_of_pieces (codes "link failed" ∷ [])
 
--- how long the datagram of a packet was, and where it went
+-- how long a datagram was, and where it went
+abbrev pub sent_line : List ℕ → List ℕ → List ℕ → List ℕ
+sent_line len server port = line_of_pieces (codes "sent " ∷ len ∷ codes " bytes to " ∷ server ∷ codes " port " ∷ port ∷ [])
+
+-- a packet that was sent
 abbrev pub sent_text : Packet → List ℕ
-sent_text packet =
-    line_of_pieces (codes "sent " ∷ decimal (length packet.datagram) ∷ codes " bytes to " ∷ packet.server ∷ codes " port " ∷ decimal packet.port ∷ [])
+sent_text packet = sent_line (decimal (length packet.datagram)) packet.server (decimal packet.port)
 
 -- the datagram of a packet that is shown and not sent
 abbrev pub shown_text : Packet → List ℕ

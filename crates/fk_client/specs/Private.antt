@@ -1,7 +1,5 @@
 -- What the contracts of this crate's private functions speak of. No public contract cites it, so no caller has to believe it.
 use Rattle.std.specs.Prelude.{◌≡◌, ℕ, List, Result, Ok, Err}
-use Rattle.fk_conf.specs.declared.command.Command.{Command}
-use Rattle.fk_conf.specs.declared.command.Command.TheVariants as command
 use Rattle.fk_client.specs.declared.refusal.Refusal.{Refusal}
 use Rattle.fk_client.specs.declared.refusal.Refusal.TheVariants as refusal
 use Rattle.fk_client.specs.Faults.{Fault}
@@ -20,16 +18,6 @@ fault_of (refusal.Need name what) = LacksSetting name.now what.now
 fault_of refusal.Entropy = EntropyFails
 fault_of refusal.Link = LinkFails
 fault_of refusal.NoMemory = WantsMemory
-
--- what the words of a client may ask for: no command of another program
-abbrev pub IsClientCommand : Command → Type 0
-IsClientCommand (command.Serve conf access packets turns verbose) = ⊥
-IsClientCommand (command.Trial conf access quiet verbose) = ⊥
-IsClientCommand command.List = ⊥
-IsClientCommand (command.Send send) = Unit {0}
-IsClientCommand command.KeyGen = Unit {0}
-IsClientCommand command.Help = Unit {0}
-IsClientCommand command.Version = Unit {0}
 
 -- bytes were drawn, and memory was wanting
 abbrev pub DrawsInVain : ℕ → Fault → EntropyView → EntropyView → Type 0

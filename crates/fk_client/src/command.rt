@@ -1,10 +1,10 @@
 ghost use Rattle.std.specs.Prelude.{◌≡◌, ◌↔◌, IsErr};
+ghost use Rattle.fk_conf.specs.CommandOf.{IsCommandOf};
 ghost use Rattle.fk_conf.specs.ReadsWords.{set_read};
 ghost use Rattle.fk_conf.specs.declared.tool.Tool.TheVariants.{Client};
 ghost use Rattle.fk_log.specs.Printing.{sink_by};
 ghost use Rattle.fk_client.specs.Causes.{FailsByAnswer};
 ghost use Rattle.fk_client.specs.Outside.{entropy_by, files_by, link_by, outside_by};
-ghost use Rattle.fk_client.specs.Private.{IsClientCommand};
 ghost use Rattle.fk_client.specs.Ready.{EndsWell, MeetsNoFault};
 ghost use Rattle.fk_client.specs.Running.{Runs, RunsClient};
 
@@ -14,7 +14,9 @@ use crate::printing::show_text;
 use crate::refusal::{refusal_of_words, refuse};
 use crate::sending::run_send;
 use fk_base::{Moment, Status, Words};
-use fk_conf::{Command, Tool, read_words};
+use fk_conf::{
+    Command, Tool, client_words_ask_for_one_packet, read_words, words_ask_for_their_program,
+};
 use fk_host::{Entropy, Files, Link, Sink};
 use std::alloc::Global;
 
@@ -37,6 +39,7 @@ pub fn fwknop_run<F: Files, N: Entropy, L: Link, K: Sink>(
     ensures complete { let at = outside_by (files_by F.held F.faults) (entropy_by N.left N.faults) (link_by L.told L.faults) (sink_by K.written K.faults) in
         MeetsNoFault words.now (at files.old entropy.old link.old out.old) (at files.new entropy.new link.new out.new) → EndsWell result }
 {
+    client_words_ask_for_one_packet();
     run_words(alloc, words, files, entropy, moment, link, out)
 }
 
@@ -53,6 +56,7 @@ fn run_words<F: Files, N: Entropy, L: Link, K: Sink>(
     ensures { let at = outside_by (files_by F.held F.faults) (entropy_by N.left N.faults) (link_by L.told L.faults) (sink_by K.written K.faults) in
         RunsClient words.now moment (at files.old entropy.old link.old out.old) (at files.new entropy.new link.new out.new) result }
 {
+    words_ask_for_their_program();
     match read_words(alloc, Tool::Client, words) {
         Ok(command) => run_command(alloc, &command, files, entropy, moment, link, out),
         Err(fault) => refuse(refusal_of_words(fault), out),
@@ -69,7 +73,7 @@ fn run_command<F: Files, N: Entropy, L: Link, K: Sink>(
     link: &mut L,
     out: &mut K,
 ) -> Status
-    requires { IsClientCommand command.now }
+    requires { IsCommandOf Client command.now }
     ensures { let at = outside_by (files_by F.held F.faults) (entropy_by N.left N.faults) (link_by L.told L.faults) (sink_by K.written K.faults) in
         Runs command.now moment (at files.old entropy.old link.old out.old) (at files.new entropy.new link.new out.new) result }
 {

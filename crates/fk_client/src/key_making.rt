@@ -1,5 +1,5 @@
 //! New keys, as both files take them.
-ghost use Rattle.std.specs.Prelude.{◌≡◌, IfOk};
+ghost use Rattle.std.specs.Prelude.{◌≡◌, IfOk, drop, take};
 ghost use Rattle.fk_log.specs.Printing.{sink_by};
 ghost use Rattle.fk_client.specs.ClientText.{keys_text, padded_text, padding_of};
 ghost use Rattle.fk_client.specs.Outside.{entropy_by};
@@ -40,14 +40,26 @@ pub(crate) fn make_keys<N: Entropy, K: Sink>(
 fn keys_text(alloc: Global, drawn: &[u8; KEYS_BYTES]) -> Result<Bytes, NoMemory>
     ensures { IfOk result (λ text. text ≡ keys_text drawn.now) }
 {
-    let key = padded_text(alloc, &drawn[..CIPHER_KEY_BYTES])?;
-    let mac_key = padded_text(alloc, &drawn[CIPHER_KEY_BYTES..])?;
+    let key = padded_text(alloc, cipher_key(drawn))?;
+    let mac_key = padded_text(alloc, hmac_key(drawn))?;
     let mut text = Bytes::copy(alloc, b"KEY_BASE64: ")?;
     text.append(key.as_slice())?;
     text.append(b"\nHMAC_KEY_BASE64: ")?;
     text.append(mac_key.as_slice())?;
     text.append(b"\n")?;
     Ok(text)
+}
+
+fn cipher_key(drawn: &[u8; KEYS_BYTES]) -> &[u8]
+    ensures { result.now ≡ take 32 drawn.now }
+{
+    &drawn[..CIPHER_KEY_BYTES]
+}
+
+fn hmac_key(drawn: &[u8; KEYS_BYTES]) -> &[u8]
+    ensures { result.now ≡ drop 32 drawn.now }
+{
+    &drawn[CIPHER_KEY_BYTES..]
 }
 
 /// Base64 with its padding.

@@ -9,8 +9,6 @@
 #![tactic(auto)]
 
 mod command;
-#[cfg(test)]
-mod command_tests;
 mod help;
 mod key_making;
 mod need_fault;

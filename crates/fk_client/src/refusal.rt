@@ -1,5 +1,6 @@
 //! Why a client comes to nothing, and the one line that says so.
-ghost use Rattle.std.specs.Prelude.{◌≡◌, Some};
+ghost use Rattle.std.specs.Prelude.{◌≡◌, ◌∷◌, ◌++◌, [], Some};
+ghost use Rattle.std.specs.List.{flat_map};
 ghost use Rattle.fk_log.specs.Item.{line_of};
 ghost use Rattle.fk_log.specs.Line.{line_text};
 ghost use Rattle.fk_log.specs.Printing.{sink_by};
@@ -69,7 +70,7 @@ pub(crate) fn need_name(fault: NeedFault) -> &'static [u8]
 
 /// Says the refusal. Where memory is wanting nothing is written.
 pub(crate) fn refuse<K: Sink>(refusal: Refusal<'_>, out: &mut K) -> Status
-    ensures { let at = sink_by K.written K.faults in Tells (fault_of refusal) (at out.old) (at out.new) result }
+    ensures { let at = sink_by K.written K.faults in Tells (fault_of refusal.entry) (at out.old) (at out.new) result }
 {
     match refusal {
         Refusal::Words(fault) => {
@@ -89,7 +90,7 @@ pub(crate) fn refuse<K: Sink>(refusal: Refusal<'_>, out: &mut K) -> Status
             Status::Config
         }
         Refusal::Need { name, what } => {
-            say_line(&[b"config ", name, b" need ", what], out);
+            say_line(&need_line(name, what), out);
             Status::Config
         }
         Refusal::Entropy => {
@@ -102,6 +103,13 @@ pub(crate) fn refuse<K: Sink>(refusal: Refusal<'_>, out: &mut K) -> Status
         }
         Refusal::NoMemory => Status::NoMemory,
     }
+}
+
+/// What the file of this name does not give.
+fn need_line<'a>(name: &'a [u8], what: &'a [u8]) -> [&'a [u8]; 4]
+    ensures { flat_map (λ piece. piece.now) result ++ 10 ∷ [] ≡ need_text name.now what.now }
+{
+    [b"config ", name, b" need ", what]
 }
 
 /// Writes the line of a fault that all programs tell alike. The fault hides that of the output.

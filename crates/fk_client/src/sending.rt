@@ -1,6 +1,8 @@
 //! One packet is made and sent, or shown.
-ghost use Rattle.std.specs.Prelude.{MatchResult};
+ghost use Rattle.std.specs.Prelude.{◌≡◌, ◌∷◌, ◌++◌, [], MatchResult};
+ghost use Rattle.std.specs.List.{flat_map};
 ghost use Rattle.fk_log.specs.Printing.{sink_by};
+ghost use Rattle.fk_client.specs.ClientText.{sent_line};
 ghost use Rattle.fk_client.specs.Outside.{entropy_by, files_by, link_by, outside_by};
 ghost use Rattle.fk_client.specs.Private.{DrawsInVain, DrawsPacket, fault_of};
 ghost use Rattle.fk_client.specs.Running.{RunsSend, SendsPacket};
@@ -76,15 +78,17 @@ fn send<L: Link, K: Sink>(packet: &Packet, link: &mut L, out: &mut K) -> Status
     }
     let mut length = Buffer::new();
     let mut port = Buffer::new();
-    show_line(
-        &[
-            b"sent ",
-            length.format(datagram.len()).as_bytes(),
-            b" bytes to ",
-            server,
-            b" port ",
-            port.format(packet.port).as_bytes(),
-        ],
-        out,
-    )
+    let pieces = sent_line(
+        length.format(datagram.len()).as_bytes(),
+        server,
+        port.format(packet.port).as_bytes(),
+    );
+    show_line(&pieces, out)
+}
+
+/// How long a datagram was, and where it went.
+fn sent_line<'a>(length: &'a [u8], server: &'a [u8], port: &'a [u8]) -> [&'a [u8]; 6]
+    ensures { flat_map (λ piece. piece.now) result ++ 10 ∷ [] ≡ sent_line length.now server.now port.now }
+{
+    [b"sent ", length, b" bytes to ", server, b" port ", port]
 }

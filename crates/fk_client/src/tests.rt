@@ -4,7 +4,9 @@ use fk_conf::{Command, Tool, read_rc, read_words};
 use fk_fields::Ask;
 use std::test::Fail;
 
-pub(crate) const EXAMPLE: &[u8] = b"# client settings
+mod command;
+
+const EXAMPLE: &[u8] = b"# client settings
 [default]
 SPA_SERVER\t192.0.2.1
 
@@ -84,7 +86,7 @@ fn what_is_needed_is_told(rt: HostRuntime) -> Result<(), Fail> {
 }
 
 // Made by Python's `hashlib` and `hmac` and by OpenSSL.
-pub(crate) const DATAGRAM: &[u8] =
+const DATAGRAM: &[u8] =
     b"8QERITFBUWF/3g2E6+QWmatAtehB8hsYxgyD6azHr7ysh3wBf2qf7k4U9E/XGaKG+wfGU/ZMRcYvZz6LXBbch/6/2/gsa+NmsNxjrMVV24gY8yvDrB2VgWEbC0MvTAdr6nzoZyVJpbEmqJCg8WBMOIufM114uCriIDjOHg4OrUPZku+HrGiMjUUKs29k1muQbvYg3HYFX5m2Kgur1l7aaWw49Xq5qju70";
 
 #[test]

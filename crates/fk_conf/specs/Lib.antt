@@ -1,3 +1,4 @@
+pub mod CommandOf
 pub mod CommandOptions
 pub mod Conf
 pub mod ConfErr
