@@ -1,2 +1,9 @@
+pub mod Causes
+pub mod ClientText
+pub mod Faults
+pub mod Outside
+pub mod Private
+pub mod Ready
+pub mod Running
 pub mod Sent
 pub mod Settle

@@ -1,13 +1,22 @@
-//! The client: the one packet that its file and its words ask for.
+//! The client: the one packet that its words and its file ask for, sent or shown, and new keys.
 //!
-//! A value comes from the words, else from the named stanza of the client's file, else from its stanza `default`. No file, socket
-//! or clock is known here.
+//! A value comes from the words, else from the named stanza of the client's file, else from its stanza `default`. The files, the
+//! entropy, the link and the output come in as traits: no socket or clock is known here, and what words and files are is said by
+//! `fk_conf`.
 //!
-//! Start at `settings`; `specs/Settle.antt` says where each value comes from, and what is needed.
+//! Start at `command`, whose one call the program makes; `specs/Running.antt` says what it does. `specs/Settle.antt` says where each
+//! value comes from and what is needed, and `specs/Sent.antt` what the datagram is.
 #![tactic(auto)]
 
+mod command;
+mod help;
+mod key_making;
 mod need_fault;
 mod packing;
+mod printing;
+mod reading;
+mod refusal;
+mod sending;
 mod sent;
 mod settled;
 mod settling;
@@ -15,6 +24,7 @@ mod stanzas;
 #[cfg(test)]
 mod tests;
 
+pub use command::fwknop_run;
 pub use need_fault::NeedFault;
 pub use packing::{DRAWN_BYTES, packet};
 pub use sent::Packet;

@@ -4,6 +4,8 @@ use fk_conf::{Command, Tool, read_rc, read_words};
 use fk_fields::Ask;
 use std::test::Fail;
 
+mod command;
+
 const EXAMPLE: &[u8] = b"# client settings
 [default]
 SPA_SERVER\t192.0.2.1

@@ -3,3 +3,4 @@ mod Rows
 pub mod WordSteps
 pub mod WordErrs
 pub mod RcSteps
+pub mod WordsAsk

@@ -1,7 +1,9 @@
+pub mod CommandOf
 pub mod CommandOptions
 pub mod Conf
 pub mod ConfErr
 pub mod ConfWhat
+pub mod FaultNames
 pub mod OptionSets
 pub mod RcFault
 pub mod RcNames

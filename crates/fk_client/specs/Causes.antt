@@ -1,0 +1,13 @@
+-- What the answer of a client says of the counts of faults, and the other way round.
+use Rattle.std.specs.Prelude.{◌≡◌, ◌⊎◌, ℕ}
+use Rattle.fk_base.specs.declared.status.Status.{Status}
+use Rattle.fk_base.specs.declared.status.Status.TheVariants as status
+use Rattle.fk_log.specs.Causes.{FailsOnlyAs, FailsSink}
+use Rattle.fk_client.specs.Outside.{Outside}
+
+-- each object has failed, once, exactly where the answer is its fault's; the output may have failed behind another fault
+pub record FailsByAnswer (answer : Status) (old new : Outside) : Type 0 where
+  pub files : FailsOnlyAs status.FileFault answer old.files.faults new.files.faults
+  pub entropy : FailsOnlyAs status.EntropyFault answer old.entropy.faults new.entropy.faults
+  pub link : FailsOnlyAs status.LinkFault answer old.link.faults new.link.faults
+  pub sink : FailsSink answer old.sink.faults new.sink.faults

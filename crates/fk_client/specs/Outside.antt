@@ -1,0 +1,53 @@
+-- What the files, the entropy, the link and the output of a client say of themselves.
+use Rattle.std.specs.Prelude.{ℕ, List, Option}
+use Rattle.fk_host.specs.Count.{counted}
+use Rattle.fk_host.specs.Link.{Sendings}
+use Rattle.fk_host.specs.declared.files.HeldFile.{HeldFile}
+use Rattle.fk_log.specs.Printing.{SinkView}
+
+pub record FilesView : Type 0 where
+  -- what is held, where they tell
+  pub held : Option (List HeldFile)
+  pub faults : ℕ
+
+pub record EntropyView : Type 0 where
+  -- the bytes that it has left, where it tells
+  pub left : Option (List ℕ)
+  pub faults : ℕ
+
+pub record LinkView : Type 0 where
+  -- the datagrams that it has sent, where it tells
+  pub told : Option Sendings
+  pub faults : ℕ
+
+pub record Outside : Type 0 where
+  pub files : FilesView
+  pub entropy : EntropyView
+  pub link : LinkView
+  pub sink : SinkView
+
+abbrev pub files_by : {F : Type 0} → (F → Option (List HeldFile)) → (F → ℕ) → F → FilesView
+files_by held faults files = record { held = held files; faults = faults files }
+
+abbrev pub entropy_by : {N : Type 0} → (N → Option (List ℕ)) → (N → ℕ) → N → EntropyView
+entropy_by left faults entropy = record { left = left entropy; faults = faults entropy }
+
+abbrev pub link_by : {L : Type 0} → (L → Option Sendings) → (L → ℕ) → L → LinkView
+link_by told faults link = record { told = told link; faults = faults link }
+
+-- the four together, of the objects by what they mean
+abbrev pub outside_by : {F N L K : Type 0} → (F → FilesView) → (N → EntropyView) → (L → LinkView) → (K → SinkView) → F → N → L → K → Outside
+outside_by files_view entropy_view link_view sink_view files entropy link sink =
+    record { files = files_view files; entropy = entropy_view entropy; link = link_view link; sink = sink_view sink }
+
+-- the files refused a read, and count it
+abbrev pub refused : FilesView → FilesView
+refused files = record files { faults = counted files.faults }
+
+-- the entropy failed, and has taken nothing
+abbrev pub undrawn : EntropyView → EntropyView
+undrawn entropy = record entropy { faults = counted entropy.faults }
+
+-- the link failed, and has sent nothing
+abbrev pub unsent : LinkView → LinkView
+unsent link = record link { faults = counted link.faults }

@@ -1,0 +1,32 @@
+-- What the contracts of this crate's private functions speak of. No public contract cites it, so no caller has to believe it.
+use Rattle.std.specs.Prelude.{◌≡◌, ℕ, List, Result, Ok, Err}
+use Rattle.fk_client.specs.declared.refusal.Refusal.{Refusal}
+use Rattle.fk_client.specs.declared.refusal.Refusal.TheVariants as refusal
+use Rattle.fk_client.specs.Faults.{Fault}
+use Rattle.fk_client.specs.Faults.Fault.{WrongWords, FileNotHeld, FileNotRead, WrongFile, LacksSetting, EntropyFails, LinkFails, WantsMemory}
+use Rattle.fk_client.specs.declared.sent.Packet.{Packet}
+use Rattle.fk_client.specs.declared.settled.Settings.{Settings}
+use Rattle.fk_client.specs.Outside.{EntropyView, undrawn}
+use Rattle.fk_client.specs.Running.{Draws, IsPacket}
+
+abbrev pub fault_of : Refusal → Fault
+fault_of (refusal.Words fault) = WrongWords fault
+fault_of (refusal.Missing name) = FileNotHeld name.now
+fault_of (refusal.Failed name) = FileNotRead name.now
+fault_of (refusal.BadFile name line what) = WrongFile name.now line what.now
+fault_of (refusal.Need name what) = LacksSetting name.now what.now
+fault_of refusal.Entropy = EntropyFails
+fault_of refusal.Link = LinkFails
+fault_of refusal.NoMemory = WantsMemory
+
+-- bytes were drawn, and memory was wanting
+abbrev pub DrawsInVain : ℕ → Fault → EntropyView → EntropyView → Type 0
+DrawsInVain count EntropyFails old new = new ≡ undrawn old
+DrawsInVain count WantsMemory old new = (drawn : List ℕ) × Draws count drawn old new
+DrawsInVain count _ old new = ⊥
+
+-- bytes were drawn, and they make this packet
+pub record DrawsPacket (settings : Settings) (moment : ℕ) (packet : Packet) (old new : EntropyView) : Type 0 where
+  pub drawn : List ℕ
+  pub draws : Draws 24 drawn old new
+  pub makes : IsPacket settings moment drawn packet

@@ -1,0 +1,47 @@
+-- When a client has to end well, unless memory is wanting, and when its words or its file are wrong.
+use Rattle.std.specs.Prelude.{◌≡◌, ◌⊎◌, ℕ, List, Some, None, IsSomeAnd}
+use Rattle.fk_base.specs.declared.status.Status.{Status}
+use Rattle.fk_base.specs.declared.status.Status.TheVariants as status
+use Rattle.fk_host.specs.Count.{Rose}
+use Rattle.fk_host.specs.Files.{bytes_of_file}
+use Rattle.fk_conf.specs.RcFault.{rc_fault}
+use Rattle.fk_conf.specs.ReadsRc.{ReadsRc}
+use Rattle.fk_conf.specs.ReadsWords.{ReadsWords}
+use Rattle.fk_conf.specs.declared.command.Command.{Command}
+use Rattle.fk_conf.specs.declared.command.Command.TheVariants as command
+use Rattle.fk_conf.specs.declared.command.SendWords.{SendWords}
+use Rattle.fk_conf.specs.declared.rc_stanza.RcStanza.{RcStanza}
+use Rattle.fk_conf.specs.declared.tool.Tool.TheVariants.{Client}
+use Rattle.fk_client.specs.Outside.{FilesView, Outside}
+use Rattle.fk_client.specs.Settle.{need_fault}
+
+-- the file that the words name is held, its text says stanzas, and these and the words give all that is needed
+pub record IsReadyToSend (send : SendWords) (files : FilesView) : Type 0 where
+  pub text : List ℕ
+  pub held : IsSomeAnd files.held (λ held. bytes_of_file send.file held ≡ Some text)
+  pub stanzas : List RcStanza
+  pub says : ReadsRc text stanzas
+  pub needs : need_fault stanzas send ≡ None
+
+-- what the command reads is there, and right
+abbrev pub IsReadyFor : Command → FilesView → Type 0
+IsReadyFor (command.Send send) files = IsReadyToSend send files
+IsReadyFor _ files = Unit {0}
+
+-- no count rose
+pub record CountsNone (old new : Outside) : Type 0 where
+  pub files : ¬ Rose old.files.faults new.files.faults
+  pub entropy : ¬ Rose old.entropy.faults new.entropy.faults
+  pub link : ¬ Rose old.link.faults new.link.faults
+  pub sink : ¬ Rose old.sink.faults new.sink.faults
+
+-- the words ask for a command for which all is ready, and nothing failed
+pub record MeetsNoFault (words : List (List ℕ)) (old new : Outside) : Type 0 where
+  pub command : Command
+  pub reads : ReadsWords Client words command
+  pub ready : IsReadyFor command old.files
+  pub counts : CountsNone old new
+
+-- the client ended well, or memory was wanting
+abbrev pub EndsWell : Status → Type 0
+EndsWell answer = (answer ≡ status.Done) ⊎ (answer ≡ status.NoMemory)

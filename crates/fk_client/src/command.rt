@@ -1,0 +1,87 @@
+ghost use Rattle.std.specs.Prelude.{◌≡◌, ◌↔◌, IsErr};
+ghost use Rattle.fk_conf.specs.CommandOf.{IsCommandOf};
+ghost use Rattle.fk_conf.specs.ReadsWords.{set_read};
+ghost use Rattle.fk_conf.specs.declared.tool.Tool.TheVariants.{Client};
+ghost use Rattle.fk_log.specs.Printing.{sink_by};
+ghost use Rattle.fk_client.specs.Causes.{FailsByAnswer};
+ghost use Rattle.fk_client.specs.Outside.{entropy_by, files_by, link_by, outside_by};
+ghost use Rattle.fk_client.specs.Ready.{EndsWell, MeetsNoFault};
+ghost use Rattle.fk_client.specs.Running.{Runs, RunsClient};
+
+use crate::help::{HELP, VERSION};
+use crate::key_making::make_keys;
+use crate::printing::show_text;
+use crate::refusal::{refusal_of_words, refuse};
+use crate::sending::run_send;
+use fk_base::{Moment, Status, Words};
+use fk_conf::{
+    Command, Tool, client_words_ask_for_one_packet, read_words, words_ask_for_their_program,
+};
+use fk_host::{Entropy, Files, Link, Sink};
+use std::alloc::Global;
+
+/// Runs `fwknop` on the words of its command line, without the program's name, at this moment. Faults are tried in this order: the
+/// words, the client's file, what it needs of settings, the entropy, the link, the output.
+pub fn fwknop_run<F: Files, N: Entropy, L: Link, K: Sink>(
+    alloc: Global,
+    words: &Words,
+    files: &mut F,
+    entropy: &mut N,
+    moment: Moment,
+    link: &mut L,
+    out: &mut K,
+) -> Status
+    ensures runs { let at = outside_by (files_by F.held F.faults) (entropy_by N.left N.faults) (link_by L.told L.faults) (sink_by K.written K.faults) in
+        RunsClient words.now moment (at files.old entropy.old link.old out.old) (at files.new entropy.new link.new out.new) result }
+    ensures usage { (result ≡ Status.Usage) ↔ IsErr (set_read Client words.now) }
+    ensures counts { let at = outside_by (files_by F.held F.faults) (entropy_by N.left N.faults) (link_by L.told L.faults) (sink_by K.written K.faults) in
+        FailsByAnswer result (at files.old entropy.old link.old out.old) (at files.new entropy.new link.new out.new) }
+    ensures complete { let at = outside_by (files_by F.held F.faults) (entropy_by N.left N.faults) (link_by L.told L.faults) (sink_by K.written K.faults) in
+        MeetsNoFault words.now (at files.old entropy.old link.old out.old) (at files.new entropy.new link.new out.new) → EndsWell result }
+{
+    client_words_ask_for_one_packet();
+    run_words(alloc, words, files, entropy, moment, link, out)
+}
+
+/// Reads the words, and does what they ask for, or tells why they are no command.
+fn run_words<F: Files, N: Entropy, L: Link, K: Sink>(
+    alloc: Global,
+    words: &Words,
+    files: &mut F,
+    entropy: &mut N,
+    moment: Moment,
+    link: &mut L,
+    out: &mut K,
+) -> Status
+    ensures { let at = outside_by (files_by F.held F.faults) (entropy_by N.left N.faults) (link_by L.told L.faults) (sink_by K.written K.faults) in
+        RunsClient words.now moment (at files.old entropy.old link.old out.old) (at files.new entropy.new link.new out.new) result }
+{
+    words_ask_for_their_program();
+    match read_words(alloc, Tool::Client, words) {
+        Ok(command) => run_command(alloc, &command, files, entropy, moment, link, out),
+        Err(fault) => refuse(refusal_of_words(fault), out),
+    }
+}
+
+/// Does what the words ask for.
+fn run_command<F: Files, N: Entropy, L: Link, K: Sink>(
+    alloc: Global,
+    command: &Command,
+    files: &mut F,
+    entropy: &mut N,
+    moment: Moment,
+    link: &mut L,
+    out: &mut K,
+) -> Status
+    requires { IsCommandOf Client command.now }
+    ensures { let at = outside_by (files_by F.held F.faults) (entropy_by N.left N.faults) (link_by L.told L.faults) (sink_by K.written K.faults) in
+        Runs command.now moment (at files.old entropy.old link.old out.old) (at files.new entropy.new link.new out.new) result }
+{
+    match command {
+        Command::Send(send) => run_send(alloc, send, files, entropy, moment, link, out),
+        Command::KeyGen => make_keys(alloc, entropy, out),
+        Command::Help => show_text(HELP, out),
+        Command::Version => show_text(VERSION, out),
+        Command::Serve { .. } | Command::Trial { .. } | Command::List => unreachable!(),
+    }
+}

@@ -1,0 +1,128 @@
+-- What the words of a program may ask for, and that those of a client ask for one packet.
+use Rattle.std.proofs.Common.{◌≡◌, ℕ, Bool, true, false, List, [], ◌∷◌, Option, Some, None, Result, Ok, Err, if◌then◌else◌, sym, subst, ◌∙◌}
+use Rattle.std.specs.Prelude.{codes}
+use Rattle.fk_conf.specs.declared.command.Command.{Command}
+use Rattle.fk_conf.specs.declared.command.Command.TheVariants as command
+use Rattle.fk_conf.specs.declared.command.SendWords.{SendWords}
+use Rattle.fk_conf.specs.declared.option_set.OptionSet.{OptionSet}
+use Rattle.fk_conf.specs.declared.option_set.OptionSet.TheVariants as sets
+use Rattle.fk_conf.specs.declared.tool.Tool.{Tool}
+use Rattle.fk_conf.specs.declared.tool.Tool.TheVariants.{Daemon, Client}
+use Rattle.fk_conf.specs.declared.word_fault.WordFault.{WordFault}
+use Rattle.fk_conf.specs.CommandOf.{AskAlike, IsCommandOf, SaysSame}
+use Rattle.fk_conf.specs.OptionSets.{fits}
+use Rattle.fk_conf.specs.ReadsWords.{IsCommand, IsSend, ReadsWords, set_read, set_unless}
+use Rattle.fk_conf.specs.WordFaults.{words_fault}
+use Rattle.fk_conf.specs.WordPlaces.{is_only}
+
+-- a set of a program
+abbrev IsSetOf : Tool → OptionSet → Type 0
+IsSetOf Daemon sets.Serve = Unit {0}
+IsSetOf Daemon sets.Trial = Unit {0}
+IsSetOf Daemon sets.List = Unit {0}
+IsSetOf Daemon sets.SendForAddress = ⊥
+IsSetOf Daemon sets.SendForSource = ⊥
+IsSetOf Daemon sets.KeyGen = ⊥
+IsSetOf Daemon sets.Help = Unit {0}
+IsSetOf Daemon sets.Version = Unit {0}
+IsSetOf Client sets.Serve = ⊥
+IsSetOf Client sets.Trial = ⊥
+IsSetOf Client sets.List = ⊥
+IsSetOf Client sets.SendForAddress = Unit {0}
+IsSetOf Client sets.SendForSource = Unit {0}
+IsSetOf Client sets.KeyGen = Unit {0}
+IsSetOf Client sets.Help = Unit {0}
+IsSetOf Client sets.Version = Unit {0}
+
+from-ok : (tool : Tool) (x set : OptionSet) → IsSetOf tool x → (let read : Result OptionSet WordFault = Ok x in read ≡ Ok set) → IsSetOf tool set
+from-ok tool x set is e = let same : x ≡ set = cc in subst (IsSetOf tool) same is
+
+chosen : (tool : Tool) (x y z : OptionSet) → IsSetOf tool sets.Help → IsSetOf tool sets.Version → IsSetOf tool x → IsSetOf tool y → IsSetOf tool z
+    → (help version : Bool) (fault : Option WordFault) (first second third : Bool) (set : OptionSet)
+    → (if help then Ok sets.Help else (if version then Ok sets.Version
+    else set_unless fault (if first then Some x else (if second then Some y else (if third then Some z else None))))) ≡ Ok set
+    → IsSetOf tool set
+chosen tool x y z h v a b c true version fault first second third set e = from-ok tool sets.Help set h e
+chosen tool x y z h v a b c false true fault first second third set e = from-ok tool sets.Version set v e
+chosen tool x y z h v a b c false false (Some fault) first second third set e = absurd cc
+chosen tool x y z h v a b c false false None true second third set e = from-ok tool x set a e
+chosen tool x y z h v a b c false false None false true third set e = from-ok tool y set b e
+chosen tool x y z h v a b c false false None false false true set e = from-ok tool z set c e
+chosen tool x y z h v a b c false false None false false false set e = absurd cc
+
+set-of : (tool : Tool) (words : List (List ℕ)) (set : OptionSet) → set_read tool words ≡ Ok set → IsSetOf tool set
+set-of Daemon words set e =
+    chosen Daemon sets.Serve sets.Trial sets.List tt tt tt tt tt (is_only (codes "--help") words) (is_only (codes "--version") words)
+    (words_fault Daemon [] false words) (fits Daemon words sets.Serve) (fits Daemon words sets.Trial) (fits Daemon words sets.List) set e
+set-of Client words set e =
+    chosen Client sets.SendForAddress sets.SendForSource sets.KeyGen tt tt tt tt tt (is_only (codes "--help") words) (is_only (codes "--version") words)
+    (words_fault Client [] false words) (fits Client words sets.SendForAddress) (fits Client words sets.SendForSource) (fits Client words sets.KeyGen) set e
+
+asks : (tool : Tool) (words : List (List ℕ)) (set : OptionSet) (asked : Command) → IsSetOf tool set → IsCommand words set asked → IsCommandOf tool asked
+asks Daemon words sets.Serve (command.Serve conf access packets turns verbose) is says = tt
+asks Daemon words sets.Serve _ is says = absurd says
+asks Daemon words sets.Trial (command.Trial conf access quiet verbose) is says = tt
+asks Daemon words sets.Trial _ is says = absurd says
+asks Daemon words sets.List command.List is says = tt
+asks Daemon words sets.List _ is says = absurd says
+asks Daemon words sets.SendForAddress _ is says = absurd is
+asks Daemon words sets.SendForSource _ is says = absurd is
+asks Daemon words sets.KeyGen _ is says = absurd is
+asks Client words sets.Serve _ is says = absurd is
+asks Client words sets.Trial _ is says = absurd is
+asks Client words sets.List _ is says = absurd is
+asks Client words sets.SendForAddress (command.Send send) is says = tt
+asks Client words sets.SendForAddress _ is says = absurd says
+asks Client words sets.SendForSource (command.Send send) is says = tt
+asks Client words sets.SendForSource _ is says = absurd says
+asks Client words sets.KeyGen command.KeyGen is says = tt
+asks Client words sets.KeyGen _ is says = absurd says
+asks tool words sets.Help command.Help is says = tt
+asks tool words sets.Help _ is says = absurd says
+asks tool words sets.Version command.Version is says = tt
+asks tool words sets.Version _ is says = absurd says
+
+-- the words of a program ask for a command of it
+pub of-program : (tool : Tool) (words : List (List ℕ)) (asked : Command) → ReadsWords tool words asked → IsCommandOf tool asked
+of-program tool words asked reads = asks tool words reads.set asked (set-of tool words reads.set reads.reads) reads.asks
+
+same-send : (words : List (List ℕ)) (a b : SendWords) → IsSend words a → IsSend words b → SaysSame a b
+same-send words a b one two = record {
+  name = one.name ∙ sym two.name;
+  file = one.file ∙ sym two.file;
+  pairs = one.pairs ∙ sym two.pairs;
+  allow = one.allow ∙ sym two.allow;
+  server = one.server ∙ sym two.server;
+  port = one.port ∙ sym two.port;
+  seconds = one.seconds ∙ sym two.seconds;
+  print = one.print ∙ sym two.print;
+}
+
+alike-of : (words : List (List ℕ)) (set : OptionSet) (a b : Command) → IsSetOf Client set → IsCommand words set a → IsCommand words set b → AskAlike a b
+alike-of words sets.Serve a b is one two = absurd is
+alike-of words sets.Trial a b is one two = absurd is
+alike-of words sets.List a b is one two = absurd is
+alike-of words sets.SendForAddress (command.Send a) (command.Send b) is one two = same-send words a b one two
+alike-of words sets.SendForAddress (command.Send a) _ is one two = absurd two
+alike-of words sets.SendForAddress _ _ is one two = absurd one
+alike-of words sets.SendForSource (command.Send a) (command.Send b) is one two = same-send words a b one two
+alike-of words sets.SendForSource (command.Send a) _ is one two = absurd two
+alike-of words sets.SendForSource _ _ is one two = absurd one
+alike-of words sets.KeyGen command.KeyGen command.KeyGen is one two = tt
+alike-of words sets.KeyGen command.KeyGen _ is one two = absurd two
+alike-of words sets.KeyGen _ _ is one two = absurd one
+alike-of words sets.Help command.Help command.Help is one two = tt
+alike-of words sets.Help command.Help _ is one two = absurd two
+alike-of words sets.Help _ _ is one two = absurd one
+alike-of words sets.Version command.Version command.Version is one two = tt
+alike-of words sets.Version command.Version _ is one two = absurd two
+alike-of words sets.Version _ _ is one two = absurd one
+
+ok-same : (read : Result OptionSet WordFault) (x y : OptionSet) → read ≡ Ok x → read ≡ Ok y → x ≡ y
+ok-same read x y a b = cc
+
+-- words of a client ask for one packet
+pub ask-alike : (words : List (List ℕ)) (a b : Command) → ReadsWords Client words a → ReadsWords Client words b → AskAlike a b
+ask-alike words a b one two =
+    let same : two.set ≡ one.set = ok-same (set_read Client words) two.set one.set two.reads one.reads in
+    alike-of words one.set a b (set-of Client words one.set one.reads) one.asks (subst (λ (set : OptionSet). IsCommand words set b) same two.asks)

@@ -1,0 +1,16 @@
+ghost use Rattle.std.specs.Prelude.{ℕ, List};
+ghost use Rattle.fk_conf.specs.declared.command.Command.{Command};
+ghost use Rattle.fk_conf.specs.declared.tool.Tool.{Tool};
+ghost use Rattle.fk_conf.specs.declared.tool.Tool.TheVariants.{Client};
+ghost use Rattle.fk_conf.specs.CommandOf.{AskAlike, IsCommandOf};
+ghost use Rattle.fk_conf.specs.ReadsWords.{ReadsWords};
+
+/// The words of a program ask for a command of it.
+pub fn words_ask_for_their_program()
+    ensures { (tool : Tool) (words : List (List ℕ)) (asked : Command) → ReadsWords tool words asked → IsCommandOf tool asked }
+{}
+
+/// Where the words of a client ask for a packet, they ask for one.
+pub fn client_words_ask_for_one_packet()
+    ensures { (words : List (List ℕ)) (a b : Command) → ReadsWords Client words a → ReadsWords Client words b → AskAlike a b }
+{}

@@ -1,0 +1,62 @@
+//! The program `fwknop`: the words of the command line, the clock and the objects of the system, handed to `fk_client`.
+//!
+//! Nothing is decided here. What the words mean, and which number the process ends with, is said by `fk_client::fwknop_run`.
+#![tactic(auto)]
+
+use fk_base::{NoMemory, Status, Words};
+use fk_client::fwknop_run;
+use fk_host::{DirFiles, StdSink, SysEntropy, UdpLink, system_moment};
+use std::process::ExitCode;
+use std::{env, io};
+
+fn main(rt: HostRuntime) -> ExitCode {
+    ExitCode::from(run(&rt).exit_code())
+}
+
+/// Runs on the system's objects. Where there is no memory for the words nothing is read or written.
+fn run(rt: &HostRuntime) -> Status {
+    match command_words(rt) {
+        Ok(words) => run_words(rt, &words),
+        Err(NoMemory) => Status::NoMemory,
+    }
+}
+
+fn run_words(rt: &HostRuntime, words: &Words) -> Status {
+    let Ok(for_files) = rt.clone() else {
+        return Status::NoMemory;
+    };
+    let Ok(for_entropy) = rt.clone() else {
+        return Status::NoMemory;
+    };
+    let Ok(for_link) = rt.clone() else {
+        return Status::NoMemory;
+    };
+    fwknop_run(
+        rt.alloc(),
+        words,
+        &mut DirFiles::new(rt.alloc(), for_files),
+        &mut SysEntropy::new(for_entropy),
+        system_moment(rt),
+        &mut UdpLink::new(for_link),
+        &mut StdSink::new(io::writer(rt)),
+    )
+}
+
+/// The words of the command line, without the program's name. Where one of them is not UTF-8 they are one word that is no option,
+/// since such a command line is a faulty one.
+fn command_words(rt: &HostRuntime) -> Result<Words, NoMemory> {
+    let mut words = Words::new(rt.alloc());
+    match env::args(rt) {
+        Ok(args) => {
+            for word in args.skip(1) {
+                words.push(word.as_bytes())?;
+            }
+            Ok(words)
+        }
+        Err(fault) if fault.kind() == io::ErrorKind::OutOfMemory => Err(NoMemory),
+        Err(_) => {
+            words.push(b"\xff")?;
+            Ok(words)
+        }
+    }
+}
