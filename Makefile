@@ -5,12 +5,12 @@ export PREFIX
 
 PROGRAMS = fwknopd fwknop
 
-# the words of the sample trial: the pair and the seconds that are granted, and the two commands
-TRIAL = --trial tcp/22 30 /bin/o /bin/c
-
 SOURCES := crates.txt HANDLES $(shell find crates -name out -prune -o -type f \( -name '*.rt' -o -name '*.antt' \) -print)
 
-.PHONY: all demo check try bench install uninstall help is_prefix
+# the unproved builds of the programs
+UNPROVED = $(PROGRAMS:%=bin/unproved/%)
+
+.PHONY: all demo test check bench install uninstall help is_prefix
 
 all: $(PROGRAMS:%=bin/%) ## proves and builds the programs, and leaves them in bin/
 
@@ -25,15 +25,24 @@ bin/%: $(SOURCES)
 	@cp crates/$*/out/$* bin/$*.new
 	@mv bin/$*.new bin/$*
 
-demo: bin/fwknopd ## runs the sample trial examples/trial.txt with the built program
-	@bin/fwknopd $(TRIAL) <examples/trial.txt
+# `rt try` compiles the sources and proves nothing.
+bin/unproved/%: $(SOURCES)
+	@mkdir -p bin/unproved
+	@echo "building $* UNPROVED (about a minute)" >&2
+	@tests/lib/unproved $* $@
+
+demo: ## shows the sample trial, and a daemon on the loopback with one packet
+	@built=$$(tests/lib/program fwknopd) && [ -z "$$(find $(SOURCES) -newer "$$built" -print -quit)" ] \
+	&& { echo "make demo: with the proved program $$built" >&2; exec examples/demo; }; \
+	[ -n "$$built" ] || echo "make demo: no proved program is built" >&2; \
+	$(MAKE) -s $(UNPROVED) && echo "make demo: with an UNPROVED build" >&2 && PROGRAMS_FOLDER=$(CURDIR)/bin/unproved examples/demo
+
+test: $(UNPROVED) ## runs every crate's tests and every script of tests/ from unproved builds, and proves nothing
+	tests/lib/try-crates
+	PROGRAMS_FOLDER=$(CURDIR)/bin/unproved tests/lib/scripts
 
 check: ## runs the gate: proofs, tests, planted bugs, programs and the scripts of tests/
 	.ci/run
-
-try: ## runs the sample trial in under a minute, from an unproved build
-	@echo "make try: this build is UNPROVED: rt try compiles the sources and proves nothing" >&2
-	@cd crates/fwknopd && rt try -- $(TRIAL) <../../examples/trial.txt
 
 bench: bin/fwknopd bin/fk_speed ## measures the built programs; bench/README.md says how to read the tables
 	bench/trial

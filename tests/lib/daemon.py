@@ -1,0 +1,112 @@
+"""A built daemon in a folder and on a port of its own, the datagrams that it is sent, and the children that it starts."""
+import os, socket, subprocess, time
+
+# the most that anything is waited for, in seconds; a busy machine may be slow
+PATIENCE = 120
+
+
+class Failure(Exception):
+    """What a script has seen that may not be."""
+
+
+def free_port():
+    with socket.socket(socket.AF_INET, socket.SOCK_DGRAM) as it:
+        it.bind(("127.0.0.1", 0))
+        return it.getsockname()[1]
+
+
+def wait_until(holds, what):
+    """Waits until `holds()` answers something that is true, and answers it."""
+    end = time.monotonic() + PATIENCE
+    while time.monotonic() < end:
+        found = holds()
+        if found:
+            return found
+        time.sleep(0.02)
+    raise Failure(what() if callable(what) else what)
+
+
+class Daemon:
+    """Its folder has `conf`, `access`, the journal, a log for each run, and `doors`, to which the children write a line each: the
+    number of their words and the words. The access file's commands name the child as DOOR."""
+
+    def __init__(self, program, folder, access, door="#!/bin/sh\necho \"$# $*\" >>{doors}\n"):
+        self.program, self.folder, self.port, self.runs, self.process = program, folder, free_port(), 0, None
+        os.makedirs(folder)
+        self.write("conf", f"UDPSERV_PORT {self.port}\n")
+        self.write("access", access.replace("DOOR", self.path("door")))
+        self.write("doors", "")
+        self.write("door", door.format(doors=self.path("doors"), folder=folder))
+        os.chmod(self.path("door"), 0o755)
+        self.socket = socket.socket(socket.AF_INET, socket.SOCK_DGRAM)
+
+    def __enter__(self):
+        return self
+
+    def __exit__(self, *_):
+        self.kill()
+        self.socket.close()
+
+    def path(self, name):
+        return os.path.join(self.folder, name)
+
+    def write(self, name, content):
+        with open(self.path(name), "w") as it:
+            it.write(content)
+
+    def read(self, name):
+        with open(self.path(name)) as it:
+            return it.read()
+
+    def journal(self):
+        if not os.path.exists(self.path("fwknopd.one")):
+            return b""
+        with open(self.path("fwknopd.one"), "rb") as it:
+            return it.read()
+
+    def begin(self, *words):
+        """Starts it with these further words, and waits until it says that it is ready."""
+        self.runs += 1
+        words = [self.program, "-f", "-c", "conf", "-a", "access", *words]
+        with open(self.path(f"log{self.runs}"), "w") as log, open(self.path(f"errors{self.runs}"), "w") as errors:
+            self.process = subprocess.Popen(words, cwd=self.folder, stdin=subprocess.DEVNULL, stdout=log, stderr=errors)
+        wait_until(lambda: self.process.poll() is not None or self.log(), "the daemon did not say that it is ready")
+        if not self.log()[:1] or not self.log()[0].startswith("ready "):
+            raise Failure(f"the daemon did not begin: {self.log()}, {self.read(f'errors{self.runs}')!r}")
+
+    def log(self):
+        """The whole lines that this run has written so far."""
+        return self.read(f"log{self.runs}").split("\n")[:-1]
+
+    def awaits(self, words, count=1):
+        """Waits until so many lines of this run have these words in them."""
+        def found():
+            if self.process.poll() is not None and count > sum(words in it for it in self.log()):
+                raise Failure(f"the daemon ended before the line '{words}': {self.log()[-5:]}")
+            return sum(words in it for it in self.log()) >= count
+
+        wait_until(found, lambda: f"no line '{words}' came; the last are {self.log()[-5:]}")
+
+    def doors(self):
+        return self.read("doors").splitlines()
+
+    def send(self, datagram):
+        self.socket.sendto(datagram if isinstance(datagram, bytes) else datagram.encode(), ("127.0.0.1", self.port))
+
+    def ask(self, datagram, answer):
+        """Sends a datagram, and waits until one line more with this answer has come."""
+        before = sum(answer in it for it in self.log())
+        self.send(datagram)
+        self.awaits(answer, before + 1)
+
+    def kill(self):
+        """Ends the daemon at once, as `kill -9` does; the children that it started go on."""
+        if self.process is not None:
+            self.process.kill()
+            self.process.wait()
+            self.process = None
+
+    def ended(self):
+        """Waits until the daemon has ended, and answers its status."""
+        wait_until(lambda: self.process.poll() is not None, lambda: f"the daemon did not end; its last lines are {self.log()[-5:]}")
+        return self.process.returncode
