@@ -1,6 +1,7 @@
 -- Worked rows, written by hand from the rules: a run for each, turn by turn, and what the definitions say of it.
-use Rattle.std.proofs.Common.{◌≡◌, ℕ, ◌<◌, Bool, true, false, List, [], ◌∷◌, ◌++◌, map, Some, None, refl, sym, subst, arith, inl, inr}
+use Rattle.std.proofs.Common.{◌≡◌, ℕ, ◌<◌, Bool, true, false, List, [], ◌∷◌, ◌++◌, map, Some, None, refl, sym, ap, ◌∙◌, subst, arith, inl, inr}
 use Rattle.std.specs.Prelude.{codes}
+use Rattle.std.proofs.lemmas.Bool.{eq-eqb}
 use Rattle.std.specs.List.{Contains}
 use Rattle.fk_base.specs.declared.address.Ip4.{Ip4}
 use Rattle.fk_base.specs.declared.pair.Pair.{Pair}
@@ -9,7 +10,7 @@ use Rattle.fk_base.specs.declared.purpose.Purpose.TheVariants.{Open, Close}
 use Rattle.fk_trace.specs.declared.change.OpenRecord.{OpenRecord}
 use Rattle.fk_trace.specs.declared.change.Change.{Change}
 use Rattle.fk_trace.specs.declared.change.Change.TheVariants.{Open as OpenChange, Done}
-use Rattle.fk_trace.specs.Trace.{Event, Item, Child, running}
+use Rattle.fk_trace.specs.Trace.{Event, Item, Child, is_close_of, is_close_attempt_of, running}
 use Rattle.fk_trace.specs.Trace.Event.{Turn, Began, StartFailed, Ended, Runs, PollFailed}
 use Rattle.fk_trace.specs.Idle.{is_idle}
 use Rattle.fk_trace.specs.Decision.{FeedTurn, Rules}
@@ -25,8 +26,8 @@ use Rattle.fk_run.specs.Ending.{ReachesLimit, FitsLimits, WantsAtDatagram, Wants
 use Rattle.fk_run.specs.declared.limits.Limits.{Limits}
 use Rattle.fk_run.specs.Planned.{planned}
 use Rattle.fk_run.specs.Legal.{LegalTurns}
-use Rattle.fk_trace.proofs.Lists.{Contains-head}
-use Rattle.fk_run.proofs.Starts.{starts-close}
+use Rattle.fk_trace.proofs.Lists.{Contains-head, list_any-from}
+use Rattle.fk_run.proofs.Starts.{starts-close, starts-left}
 use Rattle.fk_run.proofs.RowParts.{only, polls-none, polls-one, polls-two, closes-one, none-live, not-due, not-idle}
 
 abbrev source : Ip4
@@ -293,6 +294,22 @@ wants_at_the_close =
       owed = record { lives = Contains-head first []; due = omega arith; idle = refl };
       untried = refl;
     }
+
+-- It never comes at a close of a turn that is whole.
+closes_it : (id : ℕ) (words : List (List ℕ)) (event : Event) → IsAttempt (Close id) words event → is_close_attempt_of id event ≡ true
+closes_it id words (Turn number) h = absurd h
+closes_it id words (Began number other others) h = ap (is_close_of id) h.0 ∙ eq-eqb id id refl
+closes_it id words (StartFailed other others) h = ap (is_close_of id) h.0 ∙ eq-eqb id id refl
+closes_it id words (Ended number good) h = absurd h
+closes_it id words (Runs number) h = absurd h
+closes_it id words (PollFailed number) h = absurd h
+
+wants_at_no_whole_turn : (by : Rules) (place : Place) (turn : TakenTurn) → WantsAtClose by place turn → WholeTurn by place turn → ⊥
+wants_at_no_whole_turn by place turn wants whole =
+    let attempt = starts-left whole wants.item wants.owed in
+    let tried = list_any-from (λ (item : Item). is_close_attempt_of wants.item.id item.event) turn.items attempt.0 attempt.1 (closes_it wants.item.id wants.item.close attempt.0.event attempt.2) in
+    let untried = wants.untried in
+    absurd cc
 
 -- It may come at a new datagram, and at none that is a replay.
 wants_at_a_new_one : WantsAtDatagram rules (entry found) (taken (asks 1700000031 (codes "second")) (Turn 1 ∷ []) [])

@@ -16,6 +16,7 @@ LegalTurns rules place ending (taken ∷ later) =
     (WholeTurn rules place taken × LegalTurns rules (after_turn place taken) ending later)
     ⊎ (IsTrue (cuts_turn ending) × (later ≡ []) × CutTurn rules place taken)
 
+-- a run is legal by its turns, by the counts of faults that its items carry, and by the numbers of its children
 pub record Legal (run : Run) : Type 0 where
   pub turns : LegalTurns run.rules (entry run.ledger) run.ending run.turns
   -- nothing follows a fault of the disk
