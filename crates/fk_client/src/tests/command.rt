@@ -50,12 +50,26 @@ fn files_of(alloc: Global) -> Result<MemFiles, Fail> {
 }
 
 /// A run: its words, how many bytes the entropy has and the output takes, how it ends, how many datagrams it sends, what it prints.
-type Row = (&'static [u8], usize, Option<usize>, Status, u64, &'static [u8]);
+type Row = (
+    &'static [u8],
+    usize,
+    Option<usize>,
+    Status,
+    u64,
+    &'static [u8],
+);
 
 // The lines were written by hand after docs/configuration.md.
 static ROWS: [Row; 17] = [
     (b"-k", 96, None, Status::Done, 0, KEYS),
-    (b"-k", 95, None, Status::EntropyFault, 0, b"entropy failed\n"),
+    (
+        b"-k",
+        95,
+        None,
+        Status::EntropyFault,
+        0,
+        b"entropy failed\n",
+    ),
     (b"-k", 96, Some(3), Status::SinkFault, 0, b"KEY"),
     (b"--help", 0, None, Status::Done, 0, HELP),
     (b"--version", 0, None, Status::Done, 0, VERSION),
@@ -65,12 +79,54 @@ static ROWS: [Row; 17] = [
     (b"-T -T", 96, None, Status::Usage, 0, b"usage twice 2\n"),
     (b"-p 0", 96, Some(6), Status::Usage, 0, b"usage "),
     (b"-k -T", 96, None, Status::Usage, 0, b"usage modes\n"),
-    (b"", 96, None, Status::FileFault, 0, b"file .fwknoprc missing\n"),
-    (b"--rc-file cut", 96, None, Status::FileFault, 0, b"file cut failed\n"),
-    (b"--rc-file wrong", 96, None, Status::Config, 0, b"config wrong 2 BadValue\n"),
-    (b"-n none --rc-file rc", 96, None, Status::Config, 0, b"config rc need NoStanza\n"),
-    (b"-n web --rc-file rc", 23, None, Status::EntropyFault, 0, b"entropy failed\n"),
-    (b"-n web --rc-file rc", 24, Some(4), Status::SinkFault, 1, b"sent"),
+    (
+        b"",
+        96,
+        None,
+        Status::FileFault,
+        0,
+        b"file .fwknoprc missing\n",
+    ),
+    (
+        b"--rc-file cut",
+        96,
+        None,
+        Status::FileFault,
+        0,
+        b"file cut failed\n",
+    ),
+    (
+        b"--rc-file wrong",
+        96,
+        None,
+        Status::Config,
+        0,
+        b"config wrong 2 BadValue\n",
+    ),
+    (
+        b"-n none --rc-file rc",
+        96,
+        None,
+        Status::Config,
+        0,
+        b"config rc need NoStanza\n",
+    ),
+    (
+        b"-n web --rc-file rc",
+        23,
+        None,
+        Status::EntropyFault,
+        0,
+        b"entropy failed\n",
+    ),
+    (
+        b"-n web --rc-file rc",
+        24,
+        Some(4),
+        Status::SinkFault,
+        1,
+        b"sent",
+    ),
 ];
 
 #[test]
@@ -85,7 +141,13 @@ fn runs_end_as_they_should(rt: HostRuntime) -> Result<(), Fail> {
         let mut link = MemLink::new();
         let mut out = MemSink::new(alloc, *room);
         let ended = fwknop_run(
-            alloc, &words, &mut files, &mut entropy, moment, &mut link, &mut out,
+            alloc,
+            &words,
+            &mut files,
+            &mut entropy,
+            moment,
+            &mut link,
+            &mut out,
         );
         assert_eq!(rt; out.written(), *printed);
         assert_eq!(rt; (ended, link.count()), (*status, *count));
@@ -103,12 +165,24 @@ fn one_datagram_is_sent(rt: HostRuntime) -> Result<(), Fail> {
     let mut link = MemLink::new();
     let mut out = MemSink::new(alloc, None);
     let ended = fwknop_run(
-        alloc, &words, &mut files, &mut entropy, moment, &mut link, &mut out,
+        alloc,
+        &words,
+        &mut files,
+        &mut entropy,
+        moment,
+        &mut link,
+        &mut out,
     );
-    assert_eq!(rt; (ended, link.count(), link.port()), (Status::Done, 1, 62_201));
+    assert_eq!(rt;
+        (ended, link.count(), link.port()),
+        (Status::Done, 1, 62_201)
+    );
     assert_eq!(rt; link.sent(), DATAGRAM);
     assert_eq!(rt; link.server(), b"192.0.2.1".as_slice());
-    assert_eq!(rt; out.written(), b"sent 225 bytes to 192.0.2.1 port 62201\n".as_slice());
+    assert_eq!(rt;
+        out.written(),
+        b"sent 225 bytes to 192.0.2.1 port 62201\n".as_slice()
+    );
     Ok(())
 }
 
@@ -139,7 +213,13 @@ fn a_dead_link_is_told(rt: HostRuntime) -> Result<(), Fail> {
     let mut link = DeadLink { faults: 0 };
     let mut out = MemSink::new(alloc, None);
     let ended = fwknop_run(
-        alloc, &words, &mut files, &mut entropy, moment, &mut link, &mut out,
+        alloc,
+        &words,
+        &mut files,
+        &mut entropy,
+        moment,
+        &mut link,
+        &mut out,
     );
     assert_eq!(rt; out.written(), b"link failed\n".as_slice());
     assert_eq!(rt; ended, Status::LinkFault);
@@ -176,7 +256,13 @@ fn shows_timed<L: Ledger>(rt: &impl Abort, alloc: Global, blank: Blank) -> Resul
     let mut link = MemLink::new();
     let mut out = MemSink::new(alloc, None);
     let ended = fwknop_run(
-        alloc, &words, &mut files, &mut entropy, moment, &mut link, &mut out,
+        alloc,
+        &words,
+        &mut files,
+        &mut entropy,
+        moment,
+        &mut link,
+        &mut out,
     );
     assert_eq!(rt; (ended, link.count()), (Status::Done, 0));
     let Some((_end, datagram)) = out.written().split_last() else {
