@@ -23,8 +23,8 @@ use Rattle.fk_client.specs.Causes.{FailsByAnswer}
 use Rattle.fk_client.specs.Faults.{Fault, Shows, Tells, fault_of_words, fault_status, printed_status}
 use Rattle.fk_client.specs.Faults.Fault.{WrongWords, FileNotHeld, FileNotRead, WrongFile, LacksSetting, EntropyFails, LinkFails, WantsMemory}
 use Rattle.fk_client.specs.Outside.{FilesView, Outside}
-use Rattle.fk_client.specs.Ready.{CountsNone, EndsWell, IsReadyFor, IsReadyToSend, MeetsNoFault}
-use Rattle.fk_client.specs.Running.{Delivers, FailsToSettle, MakesKeys, RunsClient, RunsSend, Runs, SendsBy}
+use Rattle.fk_client.specs.Ready.{CountsNone, EndsAs, IsReadyFor, IsReadyToSend, IsWrongText, MeetsNoFault, NamesNoFile, NamesWrongFile}
+use Rattle.fk_client.specs.Running.{Delivers, FailsToSettle, HasSettings, MakesKeys, RunsClient, RunsSend, Runs, SendsBy}
 use Rattle.fk_client.specs.Settle.{need_fault}
 use Rattle.fk_conf.specs.CommandOf.{AskAlike, SaysSame}
 use Rattle.fk_client.proofs.Needs.{needs-same}
@@ -57,7 +57,7 @@ calm answer old new fails none = record {
   sink = not-sink answer old.sink.faults new.sink.faults fails.sink none.sink;
 }
 
-printed-ends : (is_broken : Bool) (answer : Status) → answer ≡ printed_status is_broken → IsCalm answer → EndsWell answer
+printed-ends : (is_broken : Bool) (answer : Status) → answer ≡ printed_status is_broken → IsCalm answer → EndsAs status.Done answer
 printed-ends false answer is calm = inl is
 printed-ends true answer is calm = absurd (calm.sink is)
 
@@ -73,7 +73,7 @@ none-wrong fault x none wrong = cc
 
 -- no fault of what is read is told
 settles-ends : (send asked : SendWords) (fault : Fault) (old new : FilesView) → SaysSame send asked → IsReadyToSend asked old → FailsToSettle send fault old new
-    → IsCalm (fault_status fault) → EndsWell (fault_status fault)
+    → IsCalm (fault_status fault) → EndsAs status.Done (fault_status fault)
 settles-ends send asked (FileNotHeld name) old new same ready fails calm = absurd (calm.files refl)
 settles-ends send asked (FileNotRead name) old new same ready fails calm = absurd (calm.files refl)
 settles-ends send asked (WrongFile name line what) old new same ready fails calm =
@@ -90,7 +90,7 @@ settles-ends send asked (WrongWords why) old new same ready fails calm = absurd 
 settles-ends send asked EntropyFails old new same ready fails calm = absurd fails
 settles-ends send asked LinkFails old new same ready fails calm = absurd fails
 
-delivery-ends : (is_shown : Bool) (packet : Packet) (old new : Outside) (answer : Status) → Delivers is_shown packet old new answer → IsCalm answer → EndsWell answer
+delivery-ends : (is_shown : Bool) (packet : Packet) (old new : Outside) (answer : Status) → Delivers is_shown packet old new answer → IsCalm answer → EndsAs status.Done answer
 delivery-ends true packet old new answer delivers calm = printed-ends delivers.1.is_broken answer delivers.1.answered calm
 delivery-ends false packet old new answer delivers calm =
     elim delivers [
@@ -99,7 +99,7 @@ delivery-ends false packet old new answer delivers calm =
     ]
 
 settled-ends : (is_shown : Bool) (settings : Settings) (moment : ℕ) (old new : Outside) (answer : Status) → SendsBy is_shown settings moment old new answer
-    → IsCalm answer → EndsWell answer
+    → IsCalm answer → EndsAs status.Done answer
 settled-ends is_shown settings moment old new answer sends calm =
     elim sends [
       | inl failed ↦ absurd (calm.entropy failed.told.answered)
@@ -110,15 +110,15 @@ settled-ends is_shown settings moment old new answer sends calm =
     ]
 
 send-ends : (send asked : SendWords) (moment : ℕ) (old new : Outside) (answer : Status) → SaysSame send asked → IsReadyToSend asked old.files
-    → RunsSend send moment old new answer → IsCalm answer → EndsWell answer
+    → RunsSend send moment old new answer → IsCalm answer → EndsAs status.Done answer
 send-ends send asked moment old new answer same ready runs calm =
     elim runs [
-      | inl lacks ↦ subst EndsWell (sym lacks.2.told.answered)
+      | inl lacks ↦ subst (EndsAs status.Done) (sym lacks.2.told.answered)
           (settles-ends send asked lacks.0 old.files new.files same ready lacks.1 (subst IsCalm lacks.2.told.answered calm))
       | inr settled ↦ settled-ends send.print settled.0 moment old new answer settled.3 calm
     ]
 
-keys-end : (old new : Outside) (answer : Status) → MakesKeys old.entropy new.entropy old.sink new.sink answer → IsCalm answer → EndsWell answer
+keys-end : (old new : Outside) (answer : Status) → MakesKeys old.entropy new.entropy old.sink new.sink answer → IsCalm answer → EndsAs status.Done answer
 keys-end old new answer makes calm =
     elim makes [
       | inl failed ↦ absurd (calm.entropy failed.1.answered)
@@ -129,7 +129,7 @@ keys-end old new answer makes calm =
     ]
 
 asked-ends : (ran asked : Command) (moment : ℕ) (old new : Outside) (answer : Status) → AskAlike ran asked → IsReadyFor asked old.files
-    → Runs ran moment old new answer → IsCalm answer → EndsWell answer
+    → Runs ran moment old new answer → IsCalm answer → EndsAs status.Done answer
 asked-ends (command.Send send) (command.Send asked) moment old new answer alike ready runs calm =
     send-ends send asked moment old new answer alike ready runs calm
 asked-ends (command.Send send) _ moment old new answer alike ready runs calm = absurd alike
@@ -140,23 +140,23 @@ asked-ends (command.Serve conf access packets turns verbose) asked moment old ne
 asked-ends (command.Trial conf access quiet verbose) asked moment old new answer alike ready runs calm = absurd runs
 asked-ends command.List asked moment old new answer alike ready runs calm = absurd runs
 
-word-ends : (words : List (List ℕ)) (fault : WordFault) (asked : Command) (answer : Status) → IsWordErr Client words fault → ReadsWords Client words asked
-    → answer ≡ fault_status (fault_of_words fault) → EndsWell answer
-word-ends words word.NoMemory asked answer why reads is = inr is
-word-ends words (word.Unknown place) asked answer why reads is = let read = reads.reads in absurd cc
-word-ends words (word.NoValue place) asked answer why reads is = let read = reads.reads in absurd cc
-word-ends words (word.Twice place) asked answer why reads is = let read = reads.reads in absurd cc
-word-ends words (word.BadValue place) asked answer why reads is = let read = reads.reads in absurd cc
-word-ends words word.Modes asked answer why reads is = let read = reads.reads in absurd cc
+word-stops : (words : List (List ℕ)) (fault : WordFault) (asked : Command) (wanted answer : Status) → IsWordErr Client words fault → ReadsWords Client words asked
+    → answer ≡ fault_status (fault_of_words fault) → EndsAs wanted answer
+word-stops words word.NoMemory asked wanted answer why reads is = inr is
+word-stops words (word.Unknown place) asked wanted answer why reads is = let read = reads.reads in absurd cc
+word-stops words (word.NoValue place) asked wanted answer why reads is = let read = reads.reads in absurd cc
+word-stops words (word.Twice place) asked wanted answer why reads is = let read = reads.reads in absurd cc
+word-stops words (word.BadValue place) asked wanted answer why reads is = let read = reads.reads in absurd cc
+word-stops words word.Modes asked wanted answer why reads is = let read = reads.reads in absurd cc
 
 -- a client in whose way nothing stands ends well
 pub client-ends : (words : List (List ℕ)) (moment : ℕ) (old new : Outside) (answer : Status) → RunsClient words moment old new answer
     → FailsByAnswer answer old new → ((a b : Command) → ReadsWords Client words a → ReadsWords Client words b → AskAlike a b)
-    → MeetsNoFault words old new → EndsWell answer
+    → MeetsNoFault words old new → EndsAs status.Done answer
 client-ends words moment old new answer runs fails alike meets =
     let quiet : IsCalm answer = calm answer old new fails meets.counts in
     elim runs [
-      | inl refuses ↦ word-ends words refuses.fault meets.command answer refuses.first meets.reads refuses.told.answered
+      | inl refuses ↦ word-stops words refuses.fault meets.command status.Done answer refuses.first meets.reads refuses.told.answered
       | inr obeys ↦ asked-ends obeys.command meets.command moment old new answer (alike obeys.command meets.command obeys.reads meets.reads) meets.ready obeys.runs quiet
     ]
 
@@ -240,6 +240,101 @@ pub client-usage : (words : List (List ℕ)) (moment : ℕ) (old new : Outside) 
 client-usage words moment old new answer runs =
     elim runs [
       | inl refuses ↦ usage-words words refuses.fault answer refuses.first refuses.told.answered
-      | inr obeys ↦ (λ usage. absurd (no-usage obeys.command moment old new answer obeys.runs usage),
-          λ wrong. absurd (ok-no_err (set_read Client words) obeys.reads.set obeys.reads.reads wrong))
+      | inr obeys ↦ (
+        λ usage. absurd (no-usage obeys.command moment old new answer obeys.runs usage),
+        λ wrong. absurd (ok-no_err (set_read Client words) obeys.reads.set obeys.reads.reads wrong),
+      )
+    ]
+
+-- the file that the words name
+
+not-held : (name other text : List ℕ) (held : Option (List HeldFile)) → other ≡ name → IsSomeAnd held (λ held. bytes_of_file name held ≡ None)
+    → IfSome held (λ held. bytes_of_file other held ≡ Some text) → ⊥
+not-held name other text None names missing told = absurd missing
+not-held name other text (Some held) names missing told =
+    let at : bytes_of_file name held ≡ Some text = subst (λ (n : List ℕ). bytes_of_file n held ≡ Some text) names told in
+    absurd cc
+
+missing-ends : (send asked : SendWords) (fault : Fault) (old new : FilesView) → SaysSame send asked → IsSomeAnd old.held (λ held. bytes_of_file asked.file held ≡ None)
+    → FailsToSettle send fault old new → EndsAs status.FileFault (fault_status fault)
+missing-ends send asked (FileNotHeld name) old new same missing fails = inl refl
+missing-ends send asked (FileNotRead name) old new same missing fails = inl refl
+missing-ends send asked (WrongFile name line what) old new same missing fails =
+    absurd (not-held asked.file send.file fails.2.text old.held same.file missing fails.2.read.held)
+missing-ends send asked (LacksSetting name what) old new same missing fails =
+    absurd (not-held asked.file send.file fails.2.read.text old.held same.file missing fails.2.read.read.held)
+missing-ends send asked WantsMemory old new same missing fails = inr refl
+missing-ends send asked (WrongWords why) old new same missing fails = absurd fails
+missing-ends send asked EntropyFails old new same missing fails = absurd fails
+missing-ends send asked LinkFails old new same missing fails = absurd fails
+
+wrong-ends : (send asked : SendWords) (fault : Fault) (old new : FilesView) → (Rose old.faults new.faults → ⊥) → FailsToSettle send fault old new
+    → EndsAs status.Config (fault_status fault)
+wrong-ends send asked (FileNotHeld name) old new calm fails = absurd (calm (rose old.faults new.faults (ap (λ (files : FilesView). files.faults) fails.1)))
+wrong-ends send asked (FileNotRead name) old new calm fails = absurd (calm (rose old.faults new.faults (ap (λ (files : FilesView). files.faults) fails.1)))
+wrong-ends send asked (WrongFile name line what) old new calm fails = inl refl
+wrong-ends send asked (LacksSetting name what) old new calm fails = inl refl
+wrong-ends send asked WantsMemory old new calm fails = inr refl
+wrong-ends send asked (WrongWords why) old new calm fails = absurd fails
+wrong-ends send asked EntropyFails old new calm fails = absurd fails
+wrong-ends send asked LinkFails old new calm fails = absurd fails
+
+-- a wrong text gives no settings
+no-settings : (send asked : SendWords) (text : List ℕ) (files : FilesView) (settings : Settings) → SaysSame send asked
+    → IsSomeAnd files.held (λ held. bytes_of_file asked.file held ≡ Some text) → IsWrongText asked text → HasSettings send files settings → ⊥
+no-settings send asked text files settings same held wrong has =
+    let found : has.read.text ≡ text = held-same asked.file send.file text has.read.text files.held same.file held has.read.read.held in
+    let says : ReadsRc text has.stanzas = subst (λ (t : List ℕ). ReadsRc t has.stanzas) found has.read.says in
+    elim wrong [
+      | inl line ↦ line says.faultless
+      | inr lacks ↦ lacks.2 (sym (needs-same text has.stanzas lacks.0 send asked says lacks.1 same) ∙ has.settles.faultless)
+    ]
+
+asked-missing : (ran : Command) (asked : SendWords) (moment : ℕ) (old new : Outside) (answer : Status) → AskAlike ran (command.Send asked)
+    → IsSomeAnd old.files.held (λ held. bytes_of_file asked.file held ≡ None) → Runs ran moment old new answer → EndsAs status.FileFault answer
+asked-missing (command.Send send) asked moment old new answer alike missing runs =
+    elim runs [
+      | inl lacks ↦ subst (EndsAs status.FileFault) (sym lacks.2.told.answered) (missing-ends send asked lacks.0 old.files new.files alike missing lacks.1)
+      | inr settled ↦ absurd (not-held asked.file send.file settled.1.read.text old.files.held alike.file missing settled.1.read.read.held)
+    ]
+asked-missing command.KeyGen asked moment old new answer alike missing runs = absurd alike
+asked-missing command.Help asked moment old new answer alike missing runs = absurd alike
+asked-missing command.Version asked moment old new answer alike missing runs = absurd alike
+asked-missing (command.Serve conf access packets turns verbose) asked moment old new answer alike missing runs = absurd runs
+asked-missing (command.Trial conf access quiet verbose) asked moment old new answer alike missing runs = absurd runs
+asked-missing command.List asked moment old new answer alike missing runs = absurd runs
+
+-- a file that is not held ends a client as a fault of the files
+pub client-missing : (words : List (List ℕ)) (moment : ℕ) (old new : Outside) (answer : Status) → RunsClient words moment old new answer
+    → ((a b : Command) → ReadsWords Client words a → ReadsWords Client words b → AskAlike a b) → NamesNoFile words old.files → EndsAs status.FileFault answer
+client-missing words moment old new answer runs alike names =
+    elim runs [
+      | inl refuses ↦ word-stops words refuses.fault (command.Send names.send) status.FileFault answer refuses.first names.reads refuses.told.answered
+      | inr obeys ↦ asked-missing obeys.command names.send moment old new answer (alike obeys.command (command.Send names.send) obeys.reads names.reads) names.missing obeys.runs
+    ]
+
+asked-wrong : (ran : Command) (asked : SendWords) (moment : ℕ) (text : List ℕ) (old new : Outside) (answer : Status) → AskAlike ran (command.Send asked)
+    → IsSomeAnd old.files.held (λ held. bytes_of_file asked.file held ≡ Some text) → IsWrongText asked text → (Rose old.files.faults new.files.faults → ⊥)
+    → Runs ran moment old new answer → EndsAs status.Config answer
+asked-wrong (command.Send send) asked moment text old new answer alike held wrong calm runs =
+    elim runs [
+      | inl lacks ↦ subst (EndsAs status.Config) (sym lacks.2.told.answered) (wrong-ends send asked lacks.0 old.files new.files calm lacks.1)
+      | inr settled ↦ absurd (no-settings send asked text old.files settled.0 alike held wrong settled.1)
+    ]
+asked-wrong command.KeyGen asked moment text old new answer alike held wrong calm runs = absurd alike
+asked-wrong command.Help asked moment text old new answer alike held wrong calm runs = absurd alike
+asked-wrong command.Version asked moment text old new answer alike held wrong calm runs = absurd alike
+asked-wrong (command.Serve conf access packets turns verbose) asked moment text old new answer alike held wrong calm runs = absurd runs
+asked-wrong (command.Trial conf access quiet verbose) asked moment text old new answer alike held wrong calm runs = absurd runs
+asked-wrong command.List asked moment text old new answer alike held wrong calm runs = absurd runs
+
+-- a wrong file ends a client as one
+pub client-wrong : (words : List (List ℕ)) (moment : ℕ) (old new : Outside) (answer : Status) → RunsClient words moment old new answer
+    → ((a b : Command) → ReadsWords Client words a → ReadsWords Client words b → AskAlike a b) → NamesWrongFile words old.files
+    → (Rose old.files.faults new.files.faults → ⊥) → EndsAs status.Config answer
+client-wrong words moment old new answer runs alike names calm =
+    elim runs [
+      | inl refuses ↦ word-stops words refuses.fault (command.Send names.send) status.Config answer refuses.first names.reads refuses.told.answered
+      | inr obeys ↦ asked-wrong obeys.command names.send moment names.text old new answer (alike obeys.command (command.Send names.send) obeys.reads names.reads)
+          names.held names.wrong calm obeys.runs
     ]

@@ -1,5 +1,5 @@
--- When a client has to end well, unless memory is wanting, and when its words or its file are wrong.
-use Rattle.std.specs.Prelude.{◌≡◌, ◌⊎◌, ℕ, List, Some, None, IsSomeAnd}
+-- How a client has to end, unless memory is wanting: well, or for its file.
+use Rattle.std.specs.Prelude.{◌≡◌, ◌≢◌, ◌⊎◌, ℕ, List, Some, None, IsSomeAnd}
 use Rattle.fk_base.specs.declared.status.Status.{Status}
 use Rattle.fk_base.specs.declared.status.Status.TheVariants as status
 use Rattle.fk_host.specs.Count.{Rose}
@@ -42,6 +42,25 @@ pub record MeetsNoFault (words : List (List ℕ)) (old new : Outside) : Type 0 w
   pub ready : IsReadyFor command old.files
   pub counts : CountsNone old new
 
--- the client ended well, or memory was wanting
-abbrev pub EndsWell : Status → Type 0
-EndsWell answer = (answer ≡ status.Done) ⊎ (answer ≡ status.NoMemory)
+-- the words ask for a packet by a file that is not held
+pub record NamesNoFile (words : List (List ℕ)) (files : FilesView) : Type 0 where
+  pub send : SendWords
+  pub reads : ReadsWords Client words (command.Send send)
+  pub missing : IsSomeAnd files.held (λ held. bytes_of_file send.file held ≡ None)
+
+-- the text has a wrong line, or it says stanzas that lack something that is needed
+abbrev pub IsWrongText : SendWords → List ℕ → Type 0
+IsWrongText send text =
+    (rc_fault text ≢ None) ⊎ ((stanzas : List RcStanza) × ReadsRc text stanzas × (need_fault stanzas send ≢ None))
+
+-- the words ask for a packet by a file that is held, and whose text is wrong
+pub record NamesWrongFile (words : List (List ℕ)) (files : FilesView) : Type 0 where
+  pub send : SendWords
+  pub reads : ReadsWords Client words (command.Send send)
+  pub text : List ℕ
+  pub held : IsSomeAnd files.held (λ held. bytes_of_file send.file held ≡ Some text)
+  pub wrong : IsWrongText send text
+
+-- the client ended so, or memory was wanting
+abbrev pub EndsAs : Status → Status → Type 0
+EndsAs wanted answer = (answer ≡ wanted) ⊎ (answer ≡ status.NoMemory)

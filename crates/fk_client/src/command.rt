@@ -2,10 +2,11 @@ ghost use Rattle.std.specs.Prelude.{◌≡◌, ◌↔◌, IsErr};
 ghost use Rattle.fk_conf.specs.CommandOf.{IsCommandOf};
 ghost use Rattle.fk_conf.specs.ReadsWords.{set_read};
 ghost use Rattle.fk_conf.specs.declared.tool.Tool.TheVariants.{Client};
+ghost use Rattle.fk_host.specs.Count.{Rose};
 ghost use Rattle.fk_log.specs.Printing.{sink_by};
 ghost use Rattle.fk_client.specs.Causes.{FailsByAnswer};
 ghost use Rattle.fk_client.specs.Outside.{entropy_by, files_by, link_by, outside_by};
-ghost use Rattle.fk_client.specs.Ready.{EndsWell, MeetsNoFault};
+ghost use Rattle.fk_client.specs.Ready.{EndsAs, MeetsNoFault, NamesNoFile, NamesWrongFile};
 ghost use Rattle.fk_client.specs.Running.{Runs, RunsClient};
 
 use crate::help::{HELP, VERSION};
@@ -34,10 +35,12 @@ pub fn fwknop_run<F: Files, N: Entropy, L: Link, K: Sink>(
     ensures runs { let at = outside_by (files_by F.held F.faults) (entropy_by N.left N.faults) (link_by L.told L.faults) (sink_by K.written K.faults) in
         RunsClient words.now moment (at files.old entropy.old link.old out.old) (at files.new entropy.new link.new out.new) result }
     ensures usage { (result ≡ Status.Usage) ↔ IsErr (set_read Client words.now) }
+    ensures missing { NamesNoFile words.now (files_by F.held F.faults files.old) → EndsAs Status.FileFault result }
+    ensures config { NamesWrongFile words.now (files_by F.held F.faults files.old) → ¬ Rose (F.faults files.old) (F.faults files.new) → EndsAs Status.Config result }
     ensures counts { let at = outside_by (files_by F.held F.faults) (entropy_by N.left N.faults) (link_by L.told L.faults) (sink_by K.written K.faults) in
         FailsByAnswer result (at files.old entropy.old link.old out.old) (at files.new entropy.new link.new out.new) }
     ensures complete { let at = outside_by (files_by F.held F.faults) (entropy_by N.left N.faults) (link_by L.told L.faults) (sink_by K.written K.faults) in
-        MeetsNoFault words.now (at files.old entropy.old link.old out.old) (at files.new entropy.new link.new out.new) → EndsWell result }
+        MeetsNoFault words.now (at files.old entropy.old link.old out.old) (at files.new entropy.new link.new out.new) → EndsAs Status.Done result }
 {
     client_words_ask_for_one_packet();
     run_words(alloc, words, files, entropy, moment, link, out)

@@ -62,11 +62,7 @@ fn stanzas_of<'a, F: Files>(
 }
 
 /// The text of the file of this name.
-fn text_of<'a, F: Files>(
-    alloc: Global,
-    name: &'a [u8],
-    files: &mut F,
-) -> Result<Bytes, Refusal<'a>>
+fn text_of<'a, F: Files>(alloc: Global, name: &'a [u8], files: &mut F) -> Result<Bytes, Refusal<'a>>
     ensures { let at = files_by F.held F.faults in MatchResult result
         (λ text. HasText name.now (at files.old) text × (at files.new ≡ at files.old))
         (λ refusal. FailsToRead name.now (fault_of refusal) (at files.old) (at files.new)) }

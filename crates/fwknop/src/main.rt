@@ -6,8 +6,9 @@
 use fk_base::{NoMemory, Status, Words};
 use fk_client::fwknop_run;
 use fk_host::{DirFiles, StdSink, SysEntropy, UdpLink, system_moment};
+use std::env::{Env, FillError};
+use std::io;
 use std::process::ExitCode;
-use std::{env, io};
 
 fn main(rt: HostRuntime) -> ExitCode {
     ExitCode::from(run(&rt).exit_code())
@@ -42,21 +43,19 @@ fn run_words(rt: &HostRuntime, words: &Words) -> Status {
     )
 }
 
-/// The words of the command line, without the program's name. Where one of them is not UTF-8 they are one word that is no option,
-/// since such a command line is a faulty one.
+/// The longest word that the system hands a program, in bytes.
+const WORD_ROOM: usize = 131_072;
+
+/// The words of the command line byte by byte, without the program's name. One that is not UTF-8 is refused at its place.
 fn command_words(rt: &HostRuntime) -> Result<Words, NoMemory> {
     let mut words = Words::new(rt.alloc());
-    match env::args(rt) {
-        Ok(args) => {
-            for word in args.skip(1) {
-                words.push(word.as_bytes())?;
-            }
-            Ok(words)
-        }
-        Err(fault) if fault.kind() == io::ErrorKind::OutOfMemory => Err(NoMemory),
-        Err(_) => {
-            words.push(b"\xff")?;
-            Ok(words)
+    let mut room = vec![in rt.alloc(); 0; WORD_ROOM]?;
+    for place in 1..usize::MAX {
+        match rt.arg(place, &mut room) {
+            Ok(len) => words.push(&room[..len])?,
+            Err(FillError::NotPresent) => return Ok(words),
+            Err(FillError::TooLong) => return Err(NoMemory),
         }
     }
+    Ok(words)
 }

@@ -1,7 +1,7 @@
 use Rattle.fk_log.specs.Printing.{sink_by}
 use Rattle.fk_client.specs.Outside.{entropy_by, files_by, link_by, outside_by}
 use Rattle.fk_client.proofs.Counting.{client-counts}
-use Rattle.fk_client.proofs.Ended.{client-ends, client-usage}
+use Rattle.fk_client.proofs.Ended.{client-ends, client-missing, client-usage, client-wrong}
 use Rattle.fk_client.proofs.command.fwknop_run.Goals as goal
 
 pub returns : goal.returns
@@ -13,6 +13,8 @@ returns g c =
     let counts = client-counts c.args.words.now c.args.moment old new c.run_words.result runs in record {
       runs = runs;
       usage = client-usage c.args.words.now c.args.moment old new c.run_words.result runs;
+      missing = client-missing c.args.words.now c.args.moment old new c.run_words.result runs (c.client_words_ask_for_one_packet.ensures c.args.words.now);
+      config = client-wrong c.args.words.now c.args.moment old new c.run_words.result runs (c.client_words_ask_for_one_packet.ensures c.args.words.now);
       counts = counts;
       complete = client-ends c.args.words.now c.args.moment old new c.run_words.result runs counts (c.client_words_ask_for_one_packet.ensures c.args.words.now);
     }

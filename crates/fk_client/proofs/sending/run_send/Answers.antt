@@ -11,9 +11,13 @@ returns-in-Err-draw_packet g c =
     let at = outside_by (files_by g.F.Files.held g.F.Files.faults) (entropy_by g.N.Entropy.left g.N.Entropy.faults) (link_by g.L.Link.told g.L.Link.faults) (sink_by g.K.Sink.written g.K.Sink.faults) in
     let old = at c.args.files.now c.args.entropy.now c.args.link.now c.args.out.now in
     let new = at c.settings_by.new.files c.draw_packet.new.entropy c.args.link.now c.refuse-in-Err-draw_packet.new.out in
-    inr (c.in-Ok.settings, c.in-Ok.ensures.0, c.in-Ok.ensures.1,
+    inr (
+      c.in-Ok.settings,
+      c.in-Ok.ensures.0,
+      c.in-Ok.ensures.1,
       in-vain c.args.words.now.print c.in-Ok.settings c.args.moment (fault_of c.in-Err-draw_packet.refusal) old new c.refuse-in-Err-draw_packet.result
-      c.in-Err-draw_packet.ensures refl c.refuse-in-Err-draw_packet.ensures)
+          c.in-Err-draw_packet.ensures refl c.refuse-in-Err-draw_packet.ensures,
+    )
 
 pub returns-then-words : goal.returns-then-words
 returns-then-words g c =
@@ -21,10 +25,14 @@ returns-then-words g c =
     let old = at c.args.files.now c.args.entropy.now c.args.link.now c.args.out.now in
     let new = at c.settings_by.new.files c.draw_packet.new.entropy c.args.link.now c.show_line.new.out in
     let packet = c.in-Ok-draw_packet.packet in
-    inr (c.in-Ok.settings, c.in-Ok.ensures.0, c.in-Ok.ensures.1,
+    inr (
+      c.in-Ok.settings,
+      c.in-Ok.ensures.0,
+      c.in-Ok.ensures.1,
       delivered c.args.words.now.print c.in-Ok.settings c.args.moment packet old new c.show_line.result c.in-Ok-draw_packet.ensures
-      (as-shown c.args.words.now.print packet old new c.show_line.result c.if-words.true refl
-      (subst (λ (datagram : List ℕ). Shows ((datagram ++ []) ++ 10 ∷ []) old.sink new.sink c.show_line.result) c.as_slice.ensures c.show_line.ensures)))
+          (as-shown c.args.words.now.print packet old new c.show_line.result c.if-words.true refl
+          (subst (λ (datagram : List ℕ). Shows ((datagram ++ []) ++ 10 ∷ []) old.sink new.sink c.show_line.result) c.as_slice.ensures c.show_line.ensures)),
+    )
 
 pub returns : goal.returns
 returns g c =
@@ -32,6 +40,10 @@ returns g c =
     let old = at c.args.files.now c.args.entropy.now c.args.link.now c.args.out.now in
     let new = at c.settings_by.new.files c.draw_packet.new.entropy c.send.new.link c.send.new.out in
     let packet = c.in-Ok-draw_packet.packet in
-    inr (c.in-Ok.settings, c.in-Ok.ensures.0, c.in-Ok.ensures.1,
+    inr (
+      c.in-Ok.settings,
+      c.in-Ok.ensures.0,
+      c.in-Ok.ensures.1,
       delivered c.args.words.now.print c.in-Ok.settings c.args.moment packet old new c.send.result c.in-Ok-draw_packet.ensures
-      (as-sent c.args.words.now.print packet old new c.send.result c.if-words.false c.send.ensures))
+          (as-sent c.args.words.now.print packet old new c.send.result c.if-words.false c.send.ensures),
+    )
