@@ -45,8 +45,11 @@ check: ## runs the gate: proofs, tests, planted bugs, programs and the scripts o
 	.ci/run
 
 bench: bin/fwknopd bin/fk_speed ## measures the built programs; bench/README.md says how to read the tables
-	bench/trial
 	bench/primitives
+	bench/packets
+	bench/trial
+	bench/admission
+	bench/serve
 
 install: is_prefix all ## copies the programs to PREFIX/bin, where PREFIX is a folder (/usr/local if none is given)
 	@set -e; to="$$PREFIX/bin"; \

@@ -2,12 +2,14 @@ ghost use Rattle.std.specs.Prelude.{◌≡◌, ◌<◌, [], ◌++◌};
 ghost use Rattle.std.specs.Fn.{iterate};
 ghost use Rattle.fk_aes.specs.Cipher.{cipher, decipher};
 ghost use Rattle.fk_mac.specs.Hmac.{hmac};
+ghost use Rattle.md5.specs.Md5.{md5};
 ghost use Rattle.sha2.specs.Sha256.{sha256};
 
 use fk_aes::Key256;
 use fk_base::{HashKind, Steps};
 use fk_mac::{MacBuf, mac};
-use sha2::{Digest, Sha256};
+use md5::Md5;
+use sha2::Sha256;
 use std::sync::ledger::{Blank, Ledger};
 
 /// The key of the example of FIPS 197, appendix C.3.
@@ -25,6 +27,9 @@ const BEHIND_DIGEST: [u8; 407] = [0; 407];
 
 /// What stands in the place of a digest at first.
 const START: [u8; 32] = [0; 32];
+
+/// What stands in the place of a digest of MD5 at first: a message of one block, the padding included.
+const SHORT_START: [u8; 16] = [0; 16];
 
 /// What the cipher makes of the block when it is applied so often.
 pub fn encrypted(count: u64) -> [u8; 16]
@@ -87,8 +92,29 @@ pub fn last_digest(count: u64) -> [u8; 32]
 fn digest_of(front: &[u8], rest: &[u8]) -> [u8; 32]
     ensures { result ≡ sha256 (front.now ++ rest.now) }
 {
+    use sha2::Digest;
     let mut hasher = Sha256::new();
     hasher.update(front);
     hasher.update(rest);
+    hasher.finalize()
+}
+
+/// The last of so many MD5 digests, each over the one before, at first 16 zeros.
+pub fn last_md5(count: u64) -> [u8; 16]
+    ensures { result ≡ iterate md5 count SHORT_START }
+{
+    let mut digest = SHORT_START;
+    for _ in 0..count {
+        digest = md5_of(&digest);
+    }
+    digest
+}
+
+fn md5_of(message: &[u8]) -> [u8; 16]
+    ensures { result ≡ md5 message.now }
+{
+    use md5::Digest;
+    let mut hasher = Md5::new();
+    hasher.update(message);
     hasher.finalize()
 }
