@@ -1,7 +1,7 @@
 ghost use Rattle.std.specs.Prelude.{◌≡◌, ◌≢◌, ◌≤◌, IfSome, true};
 ghost use Rattle.fk_command.specs.Command.{AsksToServe, is_refusal};
 ghost use Rattle.fk_daemon.specs.Account.{AreLimits};
-ghost use Rattle.fk_daemon.specs.Causes.{FailsOnlyAs};
+ghost use Rattle.fk_log.specs.Causes.{FailsOnlyAs};
 
 use crate::reading::{access_of, conf_of, say};
 use fk_base::{Bytes, Status, Words};

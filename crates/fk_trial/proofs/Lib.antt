@@ -1,0 +1,17 @@
+mod TurnLines
+mod OneTurn
+mod HostCalls
+mod GoingWell
+mod Serving
+mod Opening
+mod Behind
+mod Reading
+mod Going
+mod Stopping
+mod Ending
+mod Alike
+mod Orders
+mod Numbers
+mod SameTurns
+mod SameRuns
+mod OneLog
