@@ -8,7 +8,9 @@ mod Behind
 mod Reading
 mod Going
 mod Stopping
+mod Sending
 mod Ending
+mod Lines
 mod Alike
 mod Orders
 mod Numbers

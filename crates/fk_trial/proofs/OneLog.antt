@@ -10,6 +10,7 @@ use Rattle.fk_run.specs.Run.{Run, Ending, turns_of, trace_of}
 use Rattle.fk_run.specs.Run.Ending.{AtLimit, AtEnd, AtFeedFault, AtDiskFault, AtWantOfMemory, AtBadLine, AtLongInput, AtReadFault}
 use Rattle.fk_run.specs.Legal.{LegalTurns}
 use Rattle.fk_input.specs.declared.fault.Fault.{Fault}
+use Rattle.fk_input.specs.declared.fault.LineFault.{LineFault}
 use Rattle.fk_input.specs.declared.fault.LineFault.TheVariants.{BadLine, TooLong}
 use Rattle.fk_input.specs.Lines.{pieces}
 use Rattle.fk_input.proofs.Readings.{Reads-one}
@@ -88,26 +89,34 @@ reads AtDiskFault text left turns by has = absurd by
 reads AtWantOfMemory text left turns by has = absurd by
 reads AtReadFault text left turns by has = absurd by
 
+abbrev line_in : Option Fault → ℕ
+line_in None = 0
+line_in (Some fault) = fault.line
+
+abbrev what_in : Option Fault → LineFault
+what_in None = BadLine
+what_in (Some fault) = fault.what
+
 same-ending : (a b : Ending) → EndsByInput a → EndsByInput b → fault_of a ≡ fault_of b → a ≡ b
-same-ending AtEnd AtEnd by other same = refl
-same-ending AtEnd (AtBadLine line) by other same = absurd cc
-same-ending AtEnd (AtLongInput line) by other same = absurd cc
-same-ending (AtBadLine line) AtEnd by other same = absurd cc
-same-ending (AtBadLine line) (AtBadLine number) by other same = cc
-same-ending (AtBadLine line) (AtLongInput number) by other same = absurd cc
-same-ending (AtLongInput line) AtEnd by other same = absurd cc
-same-ending (AtLongInput line) (AtBadLine number) by other same = absurd cc
-same-ending (AtLongInput line) (AtLongInput number) by other same = cc
-same-ending AtLimit b by other same = absurd by
-same-ending AtFeedFault b by other same = absurd by
-same-ending AtDiskFault b by other same = absurd by
-same-ending AtWantOfMemory b by other same = absurd by
-same-ending AtReadFault b by other same = absurd by
-same-ending a AtLimit by other same = absurd other
-same-ending a AtFeedFault by other same = absurd other
-same-ending a AtDiskFault by other same = absurd other
-same-ending a AtWantOfMemory by other same = absurd other
-same-ending a AtReadFault by other same = absurd other
+same-ending AtEnd AtEnd by other faults = refl
+same-ending AtEnd (AtBadLine line) by other faults = absurd cc
+same-ending AtEnd (AtLongInput line) by other faults = absurd cc
+same-ending (AtBadLine line) AtEnd by other faults = absurd cc
+same-ending (AtBadLine line) (AtBadLine number) by other faults = ap AtBadLine (ap line_in faults)
+same-ending (AtBadLine line) (AtLongInput number) by other faults = absurd (let what : BadLine ≡ TooLong = ap what_in faults in cc)
+same-ending (AtLongInput line) AtEnd by other faults = absurd cc
+same-ending (AtLongInput line) (AtBadLine number) by other faults = absurd (let what : TooLong ≡ BadLine = ap what_in faults in cc)
+same-ending (AtLongInput line) (AtLongInput number) by other faults = ap AtLongInput (ap line_in faults)
+same-ending AtLimit b by other faults = absurd by
+same-ending AtFeedFault b by other faults = absurd by
+same-ending AtDiskFault b by other faults = absurd by
+same-ending AtWantOfMemory b by other faults = absurd by
+same-ending AtReadFault b by other faults = absurd by
+same-ending a AtLimit by other faults = absurd other
+same-ending a AtFeedFault by other faults = absurd other
+same-ending a AtDiskFault by other faults = absurd other
+same-ending a AtWantOfMemory by other faults = absurd other
+same-ending a AtReadFault by other faults = absurd other
 
 pub one-log : (policy : Policy) (verbosity : Verbosity) (text : List ℕ) (left other : Option (List ℕ)) (a b : Run) → IsTrial policy a → IsTrial policy b
     → HasTurns a.ending (Some text) left (turns_of a) → HasTurns b.ending (Some text) other (turns_of b) → EndsByInput a.ending → EndsByInput b.ending

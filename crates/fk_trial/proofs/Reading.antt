@@ -1,5 +1,5 @@
 -- What the lines that were read say of the whole input.
-use Rattle.std.proofs.Common.{◌≡◌, ℕ, ◌+◌, ◌<◌, ◌≤◌, Bool, true, false, List, [], ◌∷◌, ◌++◌, length, Option, Some, None, ⊎_elim, sym, ap, ◌∙◌, append-nil, append_assoc, length-append, zero-le, arith}
+use Rattle.std.proofs.Common.{◌≡◌, ℕ, ◌+◌, ◌<◌, ◌≤◌, Bool, true, false, List, [], ◌∷◌, ◌++◌, length, Option, Some, None, ⊎_elim, sym, ap, ◌∙◌, append-nil, append_assoc, length-append, zero-le, refl, arith}
 use Rattle.std.specs.List.{concat}
 use Rattle.std.proofs.lemmas.List.{append_cancel_left}
 use Rattle.std.proofs.lemmas.Bool.{cases_Bool}
@@ -78,7 +78,7 @@ pub takes-bounded : (piece : List ℕ) (start before left : Option (List ℕ)) (
     → HasRead IsTurnLine start before old turns
     → Takes piece before (rest new left) → new.offset ≡ old.offset + length piece → IsBounded new
     → TakesAtMost (input_limit + 1) start left
-pub takes-bounded piece start before left old new turns h taken offset bounded =
+takes-bounded piece start before left old new turns h taken offset bounded =
     front-bounded (concat h.used ++ piece) start left new
     (Takes-append (concat h.used) piece start before (rest new left) h.taken taken)
     (omega (arith, offset, h.offset, length-append (concat h.used) piece))

@@ -6,6 +6,7 @@ use Rattle.fk_trace.specs.Decision.{FeedTurn}
 use Rattle.fk_run.specs.Place.{Place}
 use Rattle.fk_run.specs.Turn.{TakenTurn, after_turn}
 use Rattle.fk_host.specs.Disk.{Told as TellsOf, IfTold}
+use Rattle.fk_host.specs.Count.{counted}
 use Rattle.fk_host.specs.Stream.{Gives}
 use Rattle.fk_host.specs.Medium.{Memory, told_of, areas_after}
 use Rattle.fk_host.specs.Stock.{Stock}
@@ -14,7 +15,7 @@ use Rattle.fk_log.specs.Log.{turn_lines}
 use Rattle.fk_log.specs.Log.RefusalLine.{Told}
 use Rattle.fk_log.specs.Printing.{SinkView}
 use Rattle.fk_log.specs.Shown.{shown_text}
-use Rattle.fk_log.specs.Writing.{LogState, Output, Writes, Logs, output}
+use Rattle.fk_log.specs.Writing.{GivesPart, LogState, Output, Writes, Logs, output}
 use Rattle.fk_ledger.specs.Book.{live_ids}
 use Rattle.fk_conf.specs.declared.conf.Conf.{Conf}
 use Rattle.fk_child.specs.View.{AddsItems}
@@ -75,11 +76,15 @@ page-text text log before page blank sound whole writes =
     let both : Writes false false text before after = subst (λ (x : Bool). Writes false x text before after) whole one in
     given-whole text before.written page.written blank both.0
 
--- a write that failed stays so
-still-broken : (b c : Bool) (text : List ℕ) (old new : Output) → Writes b c text old new → b ≡ true → c ≡ true
-still-broken true true text old new writes is = refl
-still-broken true false text old new writes is = absurd writes
-still-broken false c text old new writes is = absurd cc
+-- outputs that have the same bytes and faults, whatever their logs keep
+pub other-outputs : (b c : Bool) (text : List ℕ) (x y u v : Output) → u.written ≡ x.written → u.faults ≡ x.faults → v.written ≡ y.written → v.faults ≡ y.faults
+    → Writes b c text x y → Writes b c text u v
+other-outputs false false text x y u v w f z g writes =
+    (subst (λ (t : Option (List ℕ)). Gives text t v.written) (sym w) (subst (λ (t : Option (List ℕ)). Gives text x.written t) (sym z) writes.0), g ∙ writes.1 ∙ sym f)
+other-outputs false true text x y u v w f z g writes =
+    (subst (λ (t : Option (List ℕ)). GivesPart text t v.written) (sym w) (subst (λ (t : Option (List ℕ)). GivesPart text x.written t) (sym z) writes.0), g ∙ writes.1 ∙ ap counted (sym f))
+other-outputs true false text x y u v w f z g writes = writes
+other-outputs true true text x y u v w f z g writes = (z ∙ writes.0 ∙ sym w, g ∙ writes.1 ∙ sym f)
 
 -- behind a write that failed no text plays a part
 other-text : (b c : Bool) (text other : List ℕ) (old new : Output) → (b ≡ false → text ≡ other) → Writes b c text old new → Writes b c other old new
@@ -88,9 +93,9 @@ other-text true false text other old new same writes = writes
 other-text false false text other old new same writes = subst (λ (t : List ℕ). Writes false false t old new) (same refl) writes
 other-text false true text other old new same writes = subst (λ (t : List ℕ). Writes false true t old new) (same refl) writes
 
-module _ (law : Law) (policy : Policy) (turn : FeedTurn) (place : Place) (old mid new : Session) (page : Stock) (before after : SinkView)
-    (serves : ServesWhole policy place turn (scene old.daemon (view old.host) (output old.log (Some []) 0)) (scene mid.daemon (view mid.host) (output mid.log (Some page.written) page.faults)))
-    (told : mid.host.is_short ≡ false) (replay : IsReplay mid.host)
+module _ (law : Law) (policy : Policy) (turn : FeedTurn) (place : Place) (old mid new : Session) (blank page : Stock) (before after : SinkView)
+    (serves : ServesWhole policy place turn (scene old.daemon (view old.host) (output old.log (Some blank.written) blank.faults)) (scene mid.daemon (view mid.host) (output mid.log (Some page.written) page.faults)))
+    (blank_is : blank.written ≡ []) (told : mid.host.is_short ≡ false) (replay : IsReplay mid.host)
     (mid_is : mid ≡ record old { daemon = mid.daemon; host = mid.host; log = mid.log })
     (prints : PrintsPage page.written None mid new before after) where
   abbrev lines : List Line
@@ -121,10 +126,12 @@ module _ (law : Law) (policy : Policy) (turn : FeedTurn) (place : Place) (old mi
 
   written : HoldsPages old → Writes old.is_broken new.is_broken shown (printing old before) (printing new after)
   written sound =
-      let here : Writes old.is_broken new.is_broken page.written (printing mid before) (printing new after) =
+      let there : Writes old.is_broken new.is_broken page.written (printing mid before) (printing new after) =
       subst (λ (b : Bool). Writes b new.is_broken page.written (printing mid before) (printing new after)) broken_is prints.2 in
+      let here : Writes old.is_broken new.is_broken page.written (printing old before) (printing new after) =
+      other-outputs old.is_broken new.is_broken page.written (printing mid before) (printing new after) (printing old before) (printing new after) refl refl refl refl there in
       other-text old.is_broken new.is_broken page.written shown (printing old before) (printing new after)
-      (λ whole. page-text shown mid.log (output old.log (Some []) 0) page refl (sound whole) (prints.0 (broken_is ∙ whole)) serves.logs.written) here
+      (λ whole. page-text shown mid.log (output old.log (Some blank.written) blank.faults) page (ap Some blank_is) (sound whole) (prints.0 (broken_is ∙ whole)) serves.logs.written) here
 
   pages : HoldsPages new
   pages whole =

@@ -1,6 +1,7 @@
 -- A session that serves no further line.
 use Rattle.std.proofs.Common.{◌≡◌, ◌⊎◌, ℕ, ◌+◌, ◌<◌, ◌≤◌, Bool, true, false, List, [], ◌∷◌, ◌++◌, length, map, Option, Some, None, Result, Ok, Err, refl, sym, ap, ◌∙◌, subst, arith}
 use Rattle.std.specs.List.{AllPairs}
+use Rattle.std.proofs.lemmas.List.{length-map}
 use Rattle.fk_trace.specs.declared.change.Change.{Change}
 use Rattle.fk_trace.specs.Trace.{Item, Child, children, past_after}
 use Rattle.fk_trace.specs.Ledger.{live}
@@ -10,7 +11,7 @@ use Rattle.fk_run.specs.Turn.{TakenTurn, after_turns}
 use Rattle.fk_run.specs.Run.{Ending}
 use Rattle.fk_run.proofs.Owed.{past-after_turns}
 use Rattle.fk_host.specs.Count.{counted}
-use Rattle.fk_host.specs.Stream.{Takes, Gives}
+use Rattle.fk_host.specs.Stream.{Takes}
 use Rattle.fk_input.specs.Lines.{input_limit}
 use Rattle.fk_input.specs.Reading.{Reading, IsBounded, rest, TakesLine, FindsEnd, TakesLongLine, PassesLimit, BreaksOff}
 use Rattle.fk_input.proofs.Progress.{Reads-bad_line, Reads-long_line, Reads-limit, Reads-broken}
@@ -19,7 +20,7 @@ use Rattle.fk_log.specs.Log.{lines_of_turns}
 use Rattle.fk_log.specs.Log.RefusalLine.{Told}
 use Rattle.fk_log.specs.Printing.{SinkView}
 use Rattle.fk_log.specs.Shown.{shown_text}
-use Rattle.fk_log.specs.Writing.{GivesPart, Output, Writes}
+use Rattle.fk_log.specs.Writing.{Output, Writes}
 use Rattle.fk_turn.specs.declared.policy.Policy.{Policy}
 use Rattle.fk_turn.specs.declared.turn_err.TurnErr.{TurnErr}
 use Rattle.fk_turn.specs.declared.turn_err.TurnErr.TheVariants.{Disk, NoMemory}
@@ -37,7 +38,7 @@ use Rattle.fk_trial.specs.Trial.{IsTrial, HasTurns}
 use Rattle.fk_trial.specs.Sessions.{Standing, Served, Going, HasInputCause, MaySumUp, SumsUp, Stopped, StopsServing, ServesLine, ending_of, run_of, items_in, printing, printing_of}
 use Rattle.fk_trial.proofs.Behind.{ledger-behind, legal-whole}
 use Rattle.fk_trial.proofs.Reading.{turns-end, front-so_far, takes-bounded}
-use Rattle.fk_trial.proofs.Serving.{rests-parks}
+use Rattle.fk_trial.proofs.Serving.{rests-parks, other-outputs}
 
 -- no two children of these items have one number, and later ones have greater ones
 abbrev AreNumbered : List Item → Type 0
@@ -72,13 +73,7 @@ sums-up policy turns start now ending going = record {
 -- an output that has the same bytes and faults, whatever its log keeps
 same-writes : (b c d : Bool) (text : List ℕ) (first here there : Output) → d ≡ c → there.written ≡ here.written → there.faults ≡ here.faults → Writes b c text first here → Writes b d text first there
 same-writes b c d text first here there same written faults writes =
-    subst (λ (x : Bool). Writes b x text first there) (sym same) (moved b c writes)
-  where
-    moved : (b c : Bool) → Writes b c text first here → Writes b c text first there
-    moved false false writes = (subst (λ (w : Option (List ℕ)). Gives text first.written w) (sym written) writes.0, faults ∙ writes.1)
-    moved false true writes = (subst (λ (w : Option (List ℕ)). GivesPart text first.written w) (sym written) writes.0, faults ∙ writes.1)
-    moved true false writes = writes
-    moved true true writes = (written ∙ writes.0, faults ∙ writes.1)
+    subst (λ (x : Bool). Writes b x text first there) (sym same) (other-outputs b c text first here first there refl refl written faults writes)
 
 -- what is left of a turn that ended so: the daemon can be parked, and the log prints as before
 pub left_by : {T : Type 0} (policy : Policy) (place : Place) (turn : FeedTurn) (old new : Scene) (result : Result T TurnErr) → ServesOver policy place turn old new result
@@ -137,19 +132,22 @@ module _ (policy : Policy) (turns : List TakenTurn) (start : Standing) (old : Se
       → input2.faults ≡ input.faults → Stopped policy stop.BadLine start now
   stopped-bad_line takes none same =
       stopped-by stop.BadLine
-      (Reads-bad_line IsTurnLine start.streams.input.left (rest old.reader input.left) (rest reader input2.left) old.reader reader given going.read takes none) (same ∙ going.input)
+      (subst (λ (n : ℕ). HasTurns (ending_of stop.BadLine (n + 1)) start.streams.input.left input2.left given) (length-map turns (λ (taken : TakenTurn). taken.turn))
+      (Reads-bad_line IsTurnLine start.streams.input.left (rest old.reader input.left) (rest reader input2.left) old.reader reader given going.read takes none)) (same ∙ going.input)
       (most-taken takes.piece takes.taken takes.offset)
 
   pub stopped-long_line : TakesLongLine old.reader reader (rest old.reader input.left) (rest reader input2.left) → input2.faults ≡ input.faults → Stopped policy stop.BadLine start now
   stopped-long_line takes same =
       stopped-by stop.BadLine
-      (Reads-long_line IsTurnLine start.streams.input.left (rest old.reader input.left) (rest reader input2.left) old.reader reader given going.read takes) (same ∙ going.input)
+      (subst (λ (n : ℕ). HasTurns (ending_of stop.BadLine (n + 1)) start.streams.input.left input2.left given) (length-map turns (λ (taken : TakenTurn). taken.turn))
+      (Reads-long_line IsTurnLine start.streams.input.left (rest old.reader input.left) (rest reader input2.left) old.reader reader given going.read takes)) (same ∙ going.input)
       (most-taken takes.front takes.taken takes.offset)
 
   pub stopped-limit : PassesLimit old.reader reader (rest old.reader input.left) (rest reader input2.left) → input2.faults ≡ input.faults → Stopped policy stop.LongInput start now
   stopped-limit passes same =
       stopped-by stop.LongInput
-      (Reads-limit IsTurnLine start.streams.input.left (rest old.reader input.left) (rest reader input2.left) old.reader reader given going.read passes) (same ∙ going.input)
+      (subst (λ (n : ℕ). HasTurns (ending_of stop.LongInput (n + 1)) start.streams.input.left input2.left given) (length-map turns (λ (taken : TakenTurn). taken.turn))
+      (Reads-limit IsTurnLine start.streams.input.left (rest old.reader input.left) (rest reader input2.left) old.reader reader given going.read passes)) (same ∙ going.input)
       (most-taken passes.front passes.taken passes.offset)
 
   pub stopped-failed : BreaksOff old.reader reader (rest old.reader input.left) (rest reader input2.left) → input2.faults ≡ counted input.faults → Stopped policy stop.ReadFault start now

@@ -17,8 +17,6 @@ use Rattle.fk_input.specs.Reading.{Reading, rest}
 use Rattle.fk_input.specs.Progress.{HasRead}
 use Rattle.fk_log.specs.declared.tally.Tally.{Tally}
 use Rattle.fk_log.specs.declared.verbosity.Verbosity.{Verbosity}
-use Rattle.fk_log.specs.declared.item.LogItem.{LogItem}
-use Rattle.fk_log.specs.Item.{line_of}
 use Rattle.fk_log.specs.Line.{Line}
 use Rattle.fk_log.specs.Line.Line.{SummaryLine}
 use Rattle.fk_log.specs.Log.{ending_lines, lines_of_turns, turn_lines}
@@ -219,14 +217,15 @@ summary_by session = SummaryLine session.turns session.log.tally (length (live s
 abbrev pub last_lines : Stop → ℕ → Line → List Line
 last_lines how turns summary = ending_lines (ending_of how (turns + 1)) summary
 
-abbrev pub lines_of_item : Option LogItem → List Line
-lines_of_item None = []
-lines_of_item (Some item) = line_of item ∷ []
+-- The text was given to an output that was broken before, as the first Bool says, and is now, as the second does.
+abbrev pub Sends : List ℕ → Bool → Bool → SinkView → SinkView → Type 0
+Sends text old_broken new_broken before after =
+    (log other : LogState) → Writes old_broken new_broken text (output log before.written before.faults) (output other after.written after.faults)
 
--- a last line may be said by the session's log
-abbrev pub MaySay : Option LogItem → Session → Type 0
-MaySay None session = Unit {0}
-MaySay (Some item) session = HoldsPages session
+-- the last line was printed, where there is one and no write has failed
+abbrev pub SaysLast : Stop → Session → Session → SinkView → SinkView → Type 0
+SaysLast how old new before after =
+    Writes old.is_broken new.is_broken (shown_text old.log.verbosity (last_lines how old.turns (summary_by old))) (printing old before) (printing new after)
 
 -- the last line was printed where no write has failed, and the status answered
 pub record EndsSo (how : Stop) (session : Session) (answer : Status) (before after : SinkView) : Type 0 where

@@ -1,15 +1,14 @@
 //! A trial that goes on from line to line.
-ghost use Rattle.std.specs.Prelude.{◌≡◌, ℕ, ◌<◌, ◌^◌, List, IfOk, IfNone};
+ghost use Rattle.std.specs.Prelude.{◌≡◌, ℕ, ◌<◌, ◌≤◌, ◌^◌, ◌&&◌, not, List, IfOk, IfNone};
 ghost use Rattle.fk_run.specs.Place.{Place};
 ghost use Rattle.fk_run.specs.Turn.{TakenTurn};
-ghost use Rattle.fk_log.specs.Line.Line.{SummaryLine};
+ghost use Rattle.fk_input.specs.Lines.{input_limit};
 ghost use Rattle.fk_log.specs.Printing.{sink_by};
-ghost use Rattle.fk_log.specs.Shown.{shown_text};
-ghost use Rattle.fk_log.specs.Writing.{Writes};
+ghost use Rattle.fk_log.specs.Writing.{Logs, output};
 ghost use Rattle.fk_trial.specs.Replay.{IsNewHost};
 ghost use Rattle.fk_trial.specs.Streams.{source_by, streams_by};
 ghost use Rattle.fk_trial.specs.Trial.{HasStatus};
-ghost use Rattle.fk_trial.specs.Sessions.{Begins, EndsSo, GoesOn, Going, GoingSomehow, MayEnd, MaySay, MayServe, OpensDaemon, PrintsPage, RestsAt, ServesLine, Standing, Stopped, ending_of, last_lines, lines_of_item, printing, standing_by};
+ghost use Rattle.fk_trial.specs.Sessions.{Begins, EndsSo, GoesOn, Going, GoingSomehow, HoldsPages, MayEnd, MayServe, MaySumUp, OpensDaemon, PrintsPage, RestsAt, SaysLast, Sends, ServesLine, Standing, Stopped, ending_of, last_lines, standing_by, summary_by};
 
 use crate::TrialTask;
 use crate::line::read_arrival;
@@ -19,7 +18,7 @@ use fk_conf::Conf;
 use fk_host::{MemSink, Sink, Source, unscripted_children_end_well, write_all};
 use fk_input::{LineReader, NextLine};
 use fk_ledger::{Ledger, no_area_holds_two_ledgers};
-use fk_log::{LogItem, LogWriter, Tally};
+use fk_log::{LogItem, LogWriter, no_lines_log_nothing};
 use fk_turn::{Arrival, Daemon, Policy};
 use std::alloc::Global;
 
@@ -132,14 +131,19 @@ impl Session {
         requires { self.old.turns < 2 ^ 63 }
         ensures { let sink = sink_by K.written K.faults in PrintsPage page.now result self.old self.new (sink out.old) (sink out.new) }
     {
-        if !self.is_broken {
-            if self.log.is_broken() {
-                return Some(Stop::NoMemory);
-            }
-            self.is_broken = write_all(out, page).is_err();
+        if self.lacks_lines() {
+            return Some(Stop::NoMemory);
         }
+        self.is_broken = send(page, out, self.is_broken);
         self.turns += 1;
         None
+    }
+
+    /// Whether the page of a turn lacks lines that the output is to have.
+    fn lacks_lines(&self) -> bool
+        ensures { result ≡ (not self.now.is_broken && self.now.log.is_broken) }
+    {
+        !self.is_broken && self.log.is_broken()
     }
 
     /// Writes the last line, and leaves every record to the host.
@@ -147,9 +151,7 @@ impl Session {
         requires { MayEnd stop self }
         ensures { let sink = sink_by K.written K.faults in EndsSo stop self result (sink out.old) (sink out.new) }
     {
-        let live = self.daemon.live() as u64;
-        let last = last_item(stop, self.turns, self.log.tally(), live);
-        self.say_last(last, out);
+        self.say_last(stop, out);
         let Session {
             alloc: _,
             reader: _,
@@ -164,19 +166,63 @@ impl Session {
     }
 
     /// Writes the last line, where there is one and no write has failed.
-    fn say_last<K: Sink>(&mut self, last: Option<LogItem<'_>>, out: &mut K)
-        requires { MaySay last self.old }
-        ensures says { let sink = sink_by K.written K.faults in
-            Writes self.old.is_broken self.new.is_broken (shown_text self.old.log.verbosity (lines_of_item last)) (printing self.old (sink out.old)) (printing self.new (sink out.new)) }
+    fn say_last<K: Sink>(&mut self, stop: Stop, out: &mut K)
+        requires few { self.old.turns ≤ input_limit }
+        requires pages { MaySumUp stop (HoldsPages self.old) }
+        ensures says { let sink = sink_by K.written K.faults in SaysLast stop self.old self.new (sink out.old) (sink out.new) }
         ensures rest { self.new ≡ record self.old { log = self.new.log; is_broken = self.new.is_broken } }
     {
-        if let Some(item) = last
-            && !self.is_broken
-        {
-            self.log.add(&item, out);
-            self.is_broken = self.log.is_broken();
+        if !self.may_write() {
+            return;
+        }
+        self.add_last(stop, out);
+        self.is_broken = self.log.is_broken();
+    }
+
+    /// Whether no write has failed, to the output or to a page.
+    fn may_write(&self) -> bool
+        ensures { result ≡ (not self.now.is_broken && not self.now.log.is_broken) }
+    {
+        !self.is_broken && !self.log.is_broken()
+    }
+
+    /// Adds the last line: a summary where nothing failed, and none where memory was wanting.
+    fn add_last<K: Sink>(&mut self, stop: Stop, out: &mut K)
+        requires { self.old.turns ≤ input_limit }
+        ensures says { Logs (last_lines stop self.old.turns (summary_by self.old)) (output self.old.log (K.written out.old) (K.faults out.old))
+            (output self.new.log (K.written out.new) (K.faults out.new)) }
+        ensures rest { self.new ≡ record self.old { log = self.new.log } }
+    {
+        no_lines_log_nothing();
+        match stop {
+            Stop::End => {
+                let turns = self.turns;
+                let tally = self.log.tally();
+                let live = self.daemon.live() as u64;
+                self.log.add(&LogItem::Summary { turns, tally, live }, out)
+            }
+            Stop::BadLine => {
+                let line = self.turns + 1;
+                self.log.add(&LogItem::BadLine { line }, out)
+            }
+            Stop::LongInput => {
+                let line = self.turns + 1;
+                self.log.add(&LogItem::LongInput { line }, out)
+            }
+            Stop::ReadFault => self.log.add(&LogItem::InputFailed, out),
+            Stop::NoMemory => {}
         }
     }
+}
+
+/// Writes the text, where no write has failed before. Answers whether one has failed now.
+fn send<K: Sink>(text: &[u8], out: &mut K, is_broken: bool) -> bool
+    ensures { let sink = sink_by K.written K.faults in Sends text.now is_broken result (sink out.old) (sink out.new) }
+{
+    if is_broken {
+        return true;
+    }
+    write_all(out, text).is_err()
 }
 
 /// A daemon over an empty ledger. What fails there is the host, where it wants memory.
@@ -198,20 +244,6 @@ fn open_daemon(alloc: Global, conf: &Conf, host: &mut TrialHost) -> Result<Daemo
             ledger.park(owed);
             Err(error)
         }
-    }
-}
-
-/// The last line of a trial: a summary where nothing failed, and none where memory was wanting.
-fn last_item(stop: Stop, turns: u64, tally: Tally, live: u64) -> Option<LogItem<'static>>
-    requires { turns < 2 ^ 63 }
-    ensures { lines_of_item result ≡ last_lines stop turns (SummaryLine turns tally live) }
-{
-    match stop {
-        Stop::End => Some(LogItem::Summary { turns, tally, live }),
-        Stop::BadLine => Some(LogItem::BadLine { line: turns + 1 }),
-        Stop::LongInput => Some(LogItem::LongInput { line: turns + 1 }),
-        Stop::ReadFault => Some(LogItem::InputFailed),
-        Stop::NoMemory => None,
     }
 }
 

@@ -1,3 +1,4 @@
+ghost use Rattle.std.specs.Prelude.{◌+◌};
 ghost use Rattle.fk_input.specs.Lines.{input_limit};
 ghost use Rattle.fk_log.specs.Causes.{FailsOnlyAs, FailsSink};
 ghost use Rattle.fk_log.specs.Printing.{sink_by};
@@ -8,7 +9,7 @@ use crate::TrialTask;
 use crate::session::Session;
 use fk_base::Status;
 use fk_host::{Sink, Source};
-use fk_log::{LogItem, LogWriter};
+use fk_log::{LogItem, LogWriter, no_lines_log_nothing};
 use std::alloc::Global;
 
 /// Serves the lines of the input, one after another, until it has ended, a line is none of the grammar, or something failed.
@@ -25,6 +26,7 @@ pub fn trial<I: Source, K: Sink>(
     // However long the input is, at most 67108865 bytes of it are taken.
     ensures bound { TakesAtMost (input_limit + 1) (I.left input.old) (I.left input.new) }
 {
+    no_lines_log_nothing();
     let mut log = LogWriter::new(task.verbosity);
     log.add(&LogItem::Ready { live: 0 }, out);
     let Ok(mut session) = Session::begin(alloc, task.policy.conf, log) else {
