@@ -6,9 +6,8 @@ use Rattle.fk_base.specs.declared.purpose.Purpose.TheVariants.{Open, Close}
 use Rattle.fk_trace.specs.declared.change.Change.TheVariants.{Done}
 use Rattle.fk_trace.specs.Trace.{Event, Item, Child, begun_by, children, running, still_running, past_after, attempt_of, open_runs, close_runs, is_open_of, is_close_of}
 use Rattle.fk_trace.specs.Trace.Event.{Turn, Began, StartFailed, Ended, Runs, PollFailed}
-use Rattle.fk_trace.specs.Idle.{End, child_numbered, is_clean, is_idle, close_end, last_close, moments_before, or_else, begins, first_moment, is_close_child}
-use Rattle.fk_trace.specs.Legal.{moments_with, ends_after}
-use Rattle.fk_trace.specs.Planned.{settled_by, settled_by_child, settled_at, settled_in, settlements}
+use Rattle.fk_trace.specs.Idle.{End, child_numbered, is_clean, is_idle, close_end, last_close, moments_before, or_else, begins, first_moment, is_close_child, moments_with, ends_after}
+use Rattle.fk_trace.specs.Settled.{settled_by, settled_by_child, settled_at, settled_in, settlements}
 use Rattle.fk_log.specs.Line.{Line}
 use Rattle.fk_log.specs.Line.Line.{EndedLine, PollFailedLine}
 use Rattle.fk_log.specs.Log.{child_line, poll_line, poll_lines, attempt_line, attempt_lines}

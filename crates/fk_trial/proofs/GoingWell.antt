@@ -9,7 +9,7 @@ use Rattle.fk_trace.specs.declared.change.OpenRecord.{OpenRecord}
 use Rattle.fk_trace.specs.Trace.{Event, Item, Child, begun_by, past_after}
 use Rattle.fk_trace.specs.Trace.{children as children_of}
 use Rattle.fk_trace.specs.Trace.Event.{Turn, Began, StartFailed, Ended, Runs, PollFailed}
-use Rattle.fk_trace.specs.Legal.{IsPollOf, IsAttempt, AttemptsThatOpen}
+use Rattle.fk_trace.specs.Attempts.{IsPollOf, IsAttempt, AttemptsThatOpen}
 use Rattle.fk_trace.specs.Decision.{Answer, Rules}
 use Rattle.fk_trace.specs.Decision.Answer.{Nothing, Refuses, Opens}
 use Rattle.fk_trace.proofs.Splits.{second_of_zip}

@@ -4,7 +4,7 @@ use Rattle.std.specs.List.{All, AllPairs, Contains}
 use Rattle.std.proofs.lemmas.List.Elements.{All-contains}
 use Rattle.fk_trace.specs.declared.change.OpenRecord.{OpenRecord}
 use Rattle.fk_trace.specs.Trace.{Child}
-use Rattle.fk_trace.specs.Legal.{Precedes}
+use Rattle.fk_trace.specs.Attempts.{Precedes}
 use Rattle.fk_trace.proofs.Lists.{Contains-head, Contains-tail, Contains-cases}
 
 module _ {X : Type 0} (R : X → X → Type 0) (strict : (x : X) → R x x → ⊥) (one_way : (x y : X) → R x y → R y x → ⊥) where
