@@ -8,11 +8,10 @@ use Rattle.fk_trace.specs.declared.change.Change.{Change}
 use Rattle.fk_trace.specs.Trace.{Event, Item, Child, running}
 use Rattle.fk_trace.specs.Trace.Event.{Turn, Began, StartFailed, Ended, Runs, PollFailed}
 use Rattle.fk_trace.specs.Ledger.{after, live}
-use Rattle.fk_trace.specs.Idle.{is_idle}
+use Rattle.fk_trace.specs.Idle.{is_idle, ends_after}
 use Rattle.fk_trace.specs.Decision.{FeedTurn, Rules, Answer, answer, recorded_by}
 use Rattle.fk_trace.specs.Decision.Answer.{Nothing, Refuses, Opens}
 use Rattle.fk_trace.specs.Attempts.{IsPollOf, IsAttempt, AttemptsThatOpen}
-use Rattle.fk_trace.specs.Idle.{ends_after}
 use Rattle.fk_run.specs.Place.{Place, behind, changed}
 use Rattle.fk_run.specs.Turn.{TakenTurn, WholeTurn, IsDueIdle, after_turn}
 use Rattle.fk_trial.specs.Trace.{GoesWell}
