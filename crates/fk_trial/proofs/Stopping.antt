@@ -9,7 +9,7 @@ use Rattle.fk_trace.specs.Decision.{FeedTurn}
 use Rattle.fk_run.specs.Place.{entry}
 use Rattle.fk_run.specs.Turn.{TakenTurn, after_turns}
 use Rattle.fk_run.specs.Run.{Ending}
-use Rattle.fk_run.proofs.Owed.{past-after_turns}
+use Rattle.fk_run.proofs.Fronts.{past-after_turns}
 use Rattle.fk_host.specs.Count.{counted}
 use Rattle.fk_host.specs.Stream.{Takes}
 use Rattle.fk_input.specs.Lines.{input_limit}
