@@ -1,5 +1,5 @@
 pub mod Saying
 pub mod Counting
 pub mod Listed
-pub mod Asked
 pub mod Ended
+pub mod Served

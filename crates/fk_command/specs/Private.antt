@@ -7,10 +7,7 @@ use Rattle.fk_trace.specs.declared.change.OpenRecord.{OpenRecord}
 use Rattle.fk_trace.specs.Ledger.{opens}
 use Rattle.fk_log.specs.Line.{Line}
 use Rattle.fk_log.specs.Line.Line.{ListedLine}
-use Rattle.fk_conf.specs.declared.command.Command.{Command}
-use Rattle.fk_conf.specs.declared.command.Command.TheVariants as command
 use Rattle.fk_child.specs.View.{View}
-use Rattle.fk_daemon.specs.Account.{AreLimits}
 use Rattle.fk_log.specs.Printing.{SinkView}
 use Rattle.fk_daemon.specs.Outside.{FeedView, Outside}
 use Rattle.fk_command.specs.declared.files.FileNames.{FileNames}
@@ -40,16 +37,6 @@ served_in input files outside = record { files = files; input = input; outside =
 -- a world of these, where a call is handed the host and the output alone
 abbrev pub listed_in : FilesView → FeedView → InputView → View → SinkView → World
 listed_in files feed input host sink = record { files = files; input = input; outside = record { feed = feed; host = host; sink = sink } }
-
--- what the words of this program may ask for: no command of another program, and no limits that are none
-abbrev pub IsDaemonCommand : Command → Type 0
-IsDaemonCommand (command.Serve conf access packets turns verbose) = AreLimits (record { packets = packets; turns = turns })
-IsDaemonCommand (command.Trial conf access quiet verbose) = Unit {0}
-IsDaemonCommand command.List = Unit {0}
-IsDaemonCommand (command.Send send) = ⊥
-IsDaemonCommand command.KeyGen = ⊥
-IsDaemonCommand command.Help = Unit {0}
-IsDaemonCommand command.Version = Unit {0}
 
 -- the change closes the record of this number for good
 abbrev pub settles : ℕ → Change → Bool

@@ -28,8 +28,7 @@ HoldsSome told = IsSomeAnd told (λ now. (ledger : List Change) × HoldsLedger n
 abbrev pub IsReadyFor : Command → World → Type 0
 IsReadyFor (command.Serve conf access packets turns verbose) at =
     HoldsRight conf_fault conf at.files × HoldsRight access_fault access at.files × HoldsSome at.outside.host.told
-IsReadyFor (command.Trial conf access quiet verbose) at =
-    HoldsRight conf_fault conf at.files × HoldsRight access_fault access at.files
+IsReadyFor (command.Trial conf access quiet verbose) at = ⊥
 IsReadyFor command.List at = HoldsSome at.outside.host.told
 IsReadyFor (command.Send send) at = ⊥
 IsReadyFor command.KeyGen at = ⊥

@@ -2,7 +2,7 @@ ghost use Rattle.fk_child.specs.View.{view_of};
 ghost use Rattle.fk_daemon.specs.Outside.{feed_by, outside_by};
 ghost use Rattle.fk_log.specs.Printing.{sink_by};
 ghost use Rattle.fk_command.specs.Causes.{FailsByAnswer};
-ghost use Rattle.fk_command.specs.Private.{IsDaemonCommand};
+ghost use Rattle.fk_conf.specs.DaemonCommands.{IsForDaemon};
 ghost use Rattle.fk_command.specs.Ready.{EndsWell, MeetsNoFault};
 ghost use Rattle.fk_command.specs.Running.{Runs, RunsWords, serving_verbosity};
 ghost use Rattle.fk_command.specs.World.{files_by, input_by, world_by};
@@ -14,7 +14,7 @@ use crate::listing::list_records;
 use crate::refusal::{Refusal, refusal_of_words, refuse};
 use crate::serving::{Asked, serve_by_files};
 use fk_base::{Status, Words};
-use fk_conf::{Command, Tool, read_words};
+use fk_conf::{Command, Tool, daemon_words_ask_for_one_command, read_words};
 use fk_host::{Feed, Files, Host, Sink, Source};
 use fk_ledger::no_area_holds_two_ledgers;
 use fk_log::{UsageFault, Verbosity};
@@ -47,6 +47,7 @@ pub fn fwknopd_run<F: Files, E: Feed, H: Host, I: Source, K: Sink>(
         → EndsWell result }
 {
     no_area_holds_two_ledgers();
+    daemon_words_ask_for_one_command();
     match read_words(alloc, Tool::Daemon, words) {
         Ok(command) => run_command(alloc, &command, files, feed, host, input, out),
         Err(fault) => refuse(refusal_of_words(fault), out),
@@ -63,7 +64,7 @@ fn run_command<F: Files, E: Feed, H: Host, I: Source, K: Sink>(
     input: &mut I,
     out: &mut K,
 ) -> Status
-    requires { IsDaemonCommand command.now }
+    requires { IsForDaemon command.now }
     ensures runs { let at = world_by (files_by F.held F.faults)
         (outside_by (feed_by E.told E.faults E.has_ended) (view_of H.told H.may_leave H.faults H.above) (sink_by K.written K.faults))
         (input_by I.left I.faults) in

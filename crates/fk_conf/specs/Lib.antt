@@ -2,6 +2,7 @@ pub mod CommandOptions
 pub mod Conf
 pub mod ConfErr
 pub mod ConfWhat
+pub mod DaemonCommands
 pub mod OptionSets
 pub mod RcFault
 pub mod RcNames
