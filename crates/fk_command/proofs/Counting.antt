@@ -14,7 +14,8 @@ use Rattle.fk_daemon.specs.Outside.{FeedView, Outside}
 use Rattle.fk_daemon.specs.Serving.{HasStatus, Serves, SaysWhyUnopened}
 use Rattle.fk_conf.specs.declared.word_fault.WordFault.{WordFault}
 use Rattle.fk_conf.specs.declared.word_fault.WordFault.TheVariants as word
-use Rattle.fk_command.specs.World.{FilesView, InputView, World, LeavesRest, SaysTheSame}
+use Rattle.fk_trial.specs.Streams.{SourceView}
+use Rattle.fk_command.specs.World.{FilesView, World, LeavesRest, SaysTheSame}
 use Rattle.fk_command.specs.Faults.{Fault, Says, Tells, fault_line, fault_status}
 use Rattle.fk_command.specs.Faults.Fault.{WrongWords, FileNotHeld, FileNotRead, WrongFile, DiskFails, DamagedLedger, WantsMemory}
 use Rattle.fk_command.specs.Files.{Names, FailsFile, FailsFiles, conf_test, access_test}
@@ -72,14 +73,14 @@ file-blames test name (WrongWords why) old new fails = absurd fails
 file-blames test name DiskFails old new fails = absurd fails
 file-blames test name (DamagedLedger place) old new fails = absurd fails
 
-files-count : (names : Names) (fault : Fault) (old new : FilesView) → FailsFiles names fault old new → FailsOnlyAs status.FileFault (fault_status fault) old.faults new.faults
+pub files-count : (names : Names) (fault : Fault) (old new : FilesView) → FailsFiles names fault old new → FailsOnlyAs status.FileFault (fault_status fault) old.faults new.faults
 files-count names fault old new fails =
     elim fails [
       | inl conf ↦ file-count (conf_test names.conf) names.conf fault old new conf
       | inr access ↦ file-count (access_test names.access) names.access fault old new access.fails
     ]
 
-files-blame : (names : Names) (fault : Fault) (old new : FilesView) → FailsFiles names fault old new → Blames (fault_status fault)
+pub files-blame : (names : Names) (fault : Fault) (old new : FilesView) → FailsFiles names fault old new → Blames (fault_status fault)
 files-blame names fault old new fails =
     elim fails [
       | inl conf ↦ file-blames (conf_test names.conf) names.conf fault old new conf
@@ -95,7 +96,7 @@ files-told names fault answer old new fails rest tells =
       files = subst (λ (a : Status). FailsOnlyAs status.FileFault a old.files.faults new.files.faults) (sym tells.answered) (files-count names fault old.files new.files fails);
       feed = inr (blames.feed, ap (λ (feed : FeedView). feed.faults) rest.feed);
       disk = inr (blames.disk, rest.host.faults);
-      input = inr (blames.input, ap (λ (input : InputView). input.faults) rest.input);
+      input = inr (blames.input, ap (λ (input : SourceView). input.faults) rest.input);
       output = tells-sink fault old.outside.sink new.outside.sink answer tells;
     }
 
@@ -139,7 +140,7 @@ pub same-host : (host : View) → SaysTheSame host host
 same-host host = record { told = refl; images = λ k image. (λ h. h, λ h. h); faults = refl; above = refl }
 
 -- the first fault of the files was told, and nothing but the output asked
-pub refused-files : (names : Names) (fault : Fault) (answer : Status) (input : InputView) (old new : FilesView) (outside : Outside) (sink : SinkView)
+pub refused-files : (names : Names) (fault : Fault) (answer : Status) (input : SourceView) (old new : FilesView) (outside : Outside) (sink : SinkView)
     → FailsFiles names fault old new → Tells fault outside.sink sink answer
     → RefusesFiles names (served_in input old outside) (served_in input new (record outside { sink = sink })) answer
 refused-files names fault answer input old new outside sink fails tells = record {
@@ -153,7 +154,7 @@ pub refused-counts : (names : Names) (old new : World) (answer : Status) → Ref
 refused-counts names old new answer refuses = files-told names refuses.fault answer old new refuses.fails refuses.rest refuses.tells
 
 -- what a serving run leaves of the counts
-pub served-counts : (task : Task) (answer : Status) (input : InputView) (old new : FilesView) (before after : Outside) → new ≡ old → Serves task before after answer
+pub served-counts : (task : Task) (answer : Status) (input : SourceView) (old new : FilesView) (before after : Outside) → new ≡ old → Serves task before after answer
     → FailsOnlyAs status.FeedFault answer before.feed.faults after.feed.faults → FailsOnlyAs status.DiskFault answer before.host.faults after.host.faults
     → FailsSink answer before.sink.faults after.sink.faults → FailsByAnswer answer (served_in input old before) (served_in input new after)
 served-counts task answer input old new before after kept serves feed disk output =
@@ -178,7 +179,7 @@ printed-counts text old new answer prints =
       files = inr (not.0, ap (λ (files : FilesView). files.faults) prints.files);
       feed = inr (not.1.feed, ap (λ (feed : FeedView). feed.faults) prints.rest.feed);
       disk = inr (not.1.disk, prints.rest.host.faults);
-      input = inr (not.1.input, ap (λ (input : InputView). input.faults) prints.rest.input);
+      input = inr (not.1.input, ap (λ (input : SourceView). input.faults) prints.rest.input);
       output = prints-sink prints.is_broken text old.outside.sink new.outside.sink answer prints.printed prints.answered;
     }
 
@@ -199,6 +200,6 @@ words-counts words old new answer refuses =
       files = inr (not.0, ap (λ (files : FilesView). files.faults) refuses.files);
       feed = inr (not.1.feed, ap (λ (feed : FeedView). feed.faults) refuses.rest.feed);
       disk = inr (not.1.disk, refuses.rest.host.faults);
-      input = inr (not.1.input, ap (λ (input : InputView). input.faults) refuses.rest.input);
+      input = inr (not.1.input, ap (λ (input : SourceView). input.faults) refuses.rest.input);
       output = tells-sink (fault_of_words refuses.fault) old.outside.sink new.outside.sink answer refuses.tells;
     }

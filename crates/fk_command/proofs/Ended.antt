@@ -38,9 +38,9 @@ use Rattle.fk_command.specs.Ready.{CountsNone, EndsWell, HoldsRight, HoldsSome, 
 
 -- a count with a fault more rose
 rose-counted : (n : ℕ) → Rose n (counted n)
-rose-counted n = elim (order n 18446744073709551615) [
-  | inl low ↦ (omega arith, inl (omega arith))
-  | inr high ↦ (omega arith, inr (omega arith))
+rose-counted n = elim (order 18446744073709551615 n) [
+  | inl high ↦ (omega arith, inr (omega arith))
+  | inr low ↦ (omega arith, inl (omega arith))
 ]
 
 rose : (old new : ℕ) → new ≡ counted old → Rose old new
@@ -153,7 +153,7 @@ refused-ends names old new answer refuses conf access calm =
     subst EndsWell (sym refuses.tells.answered)
     (files-end names refuses.fault old.files new.files refuses.fails conf access (subst IsCalm refuses.tells.answered calm))
 
-printed-ends : (is_broken : Bool) (answer : Status) → answer ≡ printed_status is_broken → IsCalm answer → EndsWell answer
+pub printed-ends : (is_broken : Bool) (answer : Status) → answer ≡ printed_status is_broken → IsCalm answer → EndsWell answer
 printed-ends false answer is calm = inl is
 printed-ends true answer is calm = absurd (calm.output is)
 
@@ -167,48 +167,10 @@ view-ends (FileNotRead name) answer old new fails is calm none holds tells = abs
 view-ends (WrongFile name line what) answer old new fails is calm none holds tells = absurd fails
 view-ends (WrongWords why) answer old new fails is calm none holds tells = absurd fails
 
-list-ends : (old new : World) (answer : Status) → Lists old new answer → IsCalm answer → NoneBoth → HoldsSome old.outside.host.told
+pub list-ends : (old new : World) (answer : Status) → Lists old new answer → IsCalm answer → NoneBoth → HoldsSome old.outside.host.told
     → IsSome new.outside.host.told → EndsWell answer
 list-ends old new answer lists calm none holds tells =
     elim lists.came [
       | inl listed ↦ printed-ends listed.is_broken answer listed.answered calm
       | inr nothing ↦ view-ends nothing.fault answer old.outside.host new.outside.host nothing.fails nothing.tells.answered calm none holds tells
-    ]
-
-runs-end : (asked : Command) (old new : World) (answer : Status) → Runs asked old new answer → IsReadyFor asked old → IsCalm answer → NoneBoth
-    → IsSome new.outside.host.told → EndsWell answer
-runs-end (command.Serve conf access packets turns verbose) old new answer runs ready calm none tells =
-    elim runs [
-      | inl serves ↦ serving-ends serves.task old.outside new.outside answer serves.serves calm none ready.2 tells
-      | inr refuses ↦ refused-ends (record { conf = conf; access = access }) old new answer refuses ready.0 ready.1 calm
-    ]
-runs-end (command.Trial conf access quiet verbose) old new answer runs ready calm none tells = absurd ready
-runs-end command.List old new answer runs ready calm none tells = list-ends old new answer runs calm none ready tells
-runs-end (command.Send send) old new answer runs ready calm none tells = absurd runs
-runs-end command.KeyGen old new answer runs ready calm none tells = absurd runs
-runs-end command.Help old new answer runs ready calm none tells = printed-ends runs.is_broken answer runs.answered calm
-runs-end command.Version old new answer runs ready calm none tells = printed-ends runs.is_broken answer runs.answered calm
-
--- words ask for one command
-abbrev pub OneCommand : Type 0
-OneCommand = (words : List (List ℕ)) (a b : Command) → ReadsWords Daemon words a → ReadsWords Daemon words b → a ≡ b
-
-word-ends : (words : List (List ℕ)) (fault : WordFault) (asked : Command) (answer : Status) → IsWordErr Daemon words fault → ReadsWords Daemon words asked
-    → answer ≡ fault_status (fault_of_words fault) → EndsWell answer
-word-ends words word.NoMemory asked answer why reads is = inr is
-word-ends words (word.Unknown place) asked answer why reads is = let read = reads.reads in absurd cc
-word-ends words (word.NoValue place) asked answer why reads is = let read = reads.reads in absurd cc
-word-ends words (word.Twice place) asked answer why reads is = let read = reads.reads in absurd cc
-word-ends words (word.BadValue place) asked answer why reads is = let read = reads.reads in absurd cc
-word-ends words word.Modes asked answer why reads is = let read = reads.reads in absurd cc
-
--- a run in whose way nothing stands
-pub run-ends-well : (words : List (List ℕ)) (old new : World) (answer : Status) → RunsWords words old new answer → FailsByAnswer answer old new → NoneBoth → OneCommand
-    → MeetsNoFault words old new → EndsWell answer
-run-ends-well words old new answer runs fails none one meets =
-    let quiet : IsCalm answer = calm answer old new fails meets.counts in
-    elim runs [
-      | inl asked ↦ runs-end asked.command old new answer asked.runs
-          (subst (λ (c : Command). IsReadyFor c old) (one words meets.command asked.command meets.reads asked.reads) meets.ready) quiet none meets.tells
-      | inr refused ↦ word-ends words refused.fault meets.command answer refused.why meets.reads refused.tells.answered
     ]

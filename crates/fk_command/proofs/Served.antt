@@ -11,7 +11,8 @@ use Rattle.fk_access.specs.declared.stanza.Stanza.{Stanza}
 use Rattle.fk_daemon.specs.declared.task.Task.{Task}
 use Rattle.fk_daemon.specs.Outside.{Outside}
 use Rattle.fk_daemon.specs.Serving.{Serves}
-use Rattle.fk_command.specs.World.{FilesView, InputView, World}
+use Rattle.fk_trial.specs.Streams.{SourceView}
+use Rattle.fk_command.specs.World.{FilesView, World}
 use Rattle.fk_command.specs.Files.{Names, ReadsFiles}
 use Rattle.fk_command.specs.Private.{served_in}
 use Rattle.fk_command.specs.Running.{RefusesFiles, Runs, ServesByFiles, serving_verbosity}
@@ -45,7 +46,7 @@ asked-serve conf access packets turns verbose names verbosity old new answer of_
     subst (λ (v : Verbosity). ServesOrTells (record { conf = conf; access = access }) limits v old new answer) told two
 
 -- both files were read and served by
-pub served : (names : Names) (limits : Limits) (verbosity : Verbosity) (input : InputView) (old new : FilesView) (before after : Outside) (answer : Status)
+pub served : (names : Names) (limits : Limits) (verbosity : Verbosity) (input : SourceView) (old new : FilesView) (before after : Outside) (answer : Status)
     (task : Task) (conf : Conf) (stanzas : List Stanza) → ReadsFiles names conf stanzas old new → task.policy.conf.now ≡ conf → task.policy.access.now ≡ stanzas
     → task.limits ≡ limits → task.verbosity ≡ verbosity → Serves task before after answer
     → ServesByFiles names limits verbosity (served_in input old before) (served_in input new after) answer

@@ -5,7 +5,8 @@ use Rattle.fk_daemon.specs.Account.{AreLimits}
 use Rattle.fk_daemon.specs.Outside.{feed_by, outside_by}
 use Rattle.fk_command.specs.Private.{fault_of, names_of, served_in}
 use Rattle.fk_command.specs.Running.{RefusesFiles}
-use Rattle.fk_command.specs.World.{InputView, files_by}
+use Rattle.fk_trial.specs.Streams.{SourceView}
+use Rattle.fk_command.specs.World.{files_by}
 use Rattle.fk_command.proofs.Counting.{refused-counts, refused-files, served-counts}
 use Rattle.fk_command.proofs.Served.{served}
 use Rattle.fk_command.proofs.serving.serve_by_files.Goals as goal
@@ -18,7 +19,7 @@ returns-in-Err g c =
     let names = names_of c.args.asked.now.names in
     let before = at c.args.feed.now c.args.host.now c.args.out.now in
     let after = at c.args.feed.now c.args.host.now c.refuse.new.out in
-    let refuses : (input : InputView) → RefusesFiles names (served_in input (file c.args.files.now) before) (served_in input (file c.read_files.new.files) after) c.refuse.result =
+    let refuses : (input : SourceView) → RefusesFiles names (served_in input (file c.args.files.now) before) (served_in input (file c.read_files.new.files) after) c.refuse.result =
     λ input. refused-files names (fault_of c.in-Err.refusal) c.refuse.result input (file c.args.files.now) (file c.read_files.new.files) before (sink c.refuse.new.out)
     c.in-Err.ensures c.refuse.ensures in
     record {
