@@ -12,12 +12,17 @@ use Rattle.fk_child.specs.View.{View}
 use Rattle.fk_daemon.specs.declared.task.Task.{Task}
 use Rattle.fk_daemon.specs.Outside.{FeedView, Outside}
 use Rattle.fk_daemon.specs.Serving.{HasStatus, Serves, SaysWhyUnopened}
-use Rattle.fk_command.specs.World.{FilesView, World, LeavesRest}
+use Rattle.fk_conf.specs.declared.word_fault.WordFault.{WordFault}
+use Rattle.fk_conf.specs.declared.word_fault.WordFault.TheVariants as word
+use Rattle.fk_trial.specs.Streams.{SourceView}
+use Rattle.fk_command.specs.World.{FilesView, World, LeavesRest, SaysTheSame}
 use Rattle.fk_command.specs.Faults.{Fault, Says, Tells, fault_line, fault_status}
 use Rattle.fk_command.specs.Faults.Fault.{WrongWords, FileNotHeld, FileNotRead, WrongFile, DiskFails, DamagedLedger, WantsMemory}
 use Rattle.fk_command.specs.Files.{Names, FailsFile, FailsFiles, conf_test, access_test}
 use Rattle.fk_command.specs.Listing.{printed_status}
 use Rattle.fk_command.specs.Causes.{FailsByAnswer}
+use Rattle.fk_command.specs.Private.{served_in}
+use Rattle.fk_command.specs.Running.{PrintsOnly, RefusesFiles, RefusesWords, fault_of_words}
 use Rattle.fk_command.proofs.Saying.{printed-once, said-once}
 
 -- an answer that is none of the four faults of an object
@@ -68,14 +73,14 @@ file-blames test name (WrongWords why) old new fails = absurd fails
 file-blames test name DiskFails old new fails = absurd fails
 file-blames test name (DamagedLedger place) old new fails = absurd fails
 
-files-count : (names : Names) (fault : Fault) (old new : FilesView) → FailsFiles names fault old new → FailsOnlyAs status.FileFault (fault_status fault) old.faults new.faults
+pub files-count : (names : Names) (fault : Fault) (old new : FilesView) → FailsFiles names fault old new → FailsOnlyAs status.FileFault (fault_status fault) old.faults new.faults
 files-count names fault old new fails =
     elim fails [
       | inl conf ↦ file-count (conf_test names.conf) names.conf fault old new conf
       | inr access ↦ file-count (access_test names.access) names.access fault old new access.fails
     ]
 
-files-blame : (names : Names) (fault : Fault) (old new : FilesView) → FailsFiles names fault old new → Blames (fault_status fault)
+pub files-blame : (names : Names) (fault : Fault) (old new : FilesView) → FailsFiles names fault old new → Blames (fault_status fault)
 files-blame names fault old new fails =
     elim fails [
       | inl conf ↦ file-blames (conf_test names.conf) names.conf fault old new conf
@@ -91,7 +96,7 @@ files-told names fault answer old new fails rest tells =
       files = subst (λ (a : Status). FailsOnlyAs status.FileFault a old.files.faults new.files.faults) (sym tells.answered) (files-count names fault old.files new.files fails);
       feed = inr (blames.feed, ap (λ (feed : FeedView). feed.faults) rest.feed);
       disk = inr (blames.disk, rest.host.faults);
-      input = inr (blames.input, ap (λ input. input.faults) rest.input);
+      input = inr (blames.input, ap (λ (input : SourceView). input.faults) rest.input);
       output = tells-sink fault old.outside.sink new.outside.sink answer tells;
     }
 
@@ -129,3 +134,72 @@ serving-answers task old new answer serves =
       | inl run ↦ run-answers run.account.run.ending run.is_broken answer run.answered
       | inr none ↦ none-answers task.verbosity answer none.is_broken old new none.why
     ]
+
+-- a host that no call was made of
+pub same-host : (host : View) → SaysTheSame host host
+same-host host = record { told = refl; images = λ k image. (λ h. h, λ h. h); faults = refl; above = refl }
+
+-- the first fault of the files was told, and nothing but the output asked
+pub refused-files : (names : Names) (fault : Fault) (answer : Status) (input : SourceView) (old new : FilesView) (outside : Outside) (sink : SinkView)
+    → FailsFiles names fault old new → Tells fault outside.sink sink answer
+    → RefusesFiles names (served_in input old outside) (served_in input new (record outside { sink = sink })) answer
+refused-files names fault answer input old new outside sink fails tells = record {
+  fault = fault;
+  fails = fails;
+  rest = record { feed = refl; host = same-host outside.host; input = refl };
+  tells = tells;
+}
+
+pub refused-counts : (names : Names) (old new : World) (answer : Status) → RefusesFiles names old new answer → FailsByAnswer answer old new
+refused-counts names old new answer refuses = files-told names refuses.fault answer old new refuses.fails refuses.rest refuses.tells
+
+-- what a serving run leaves of the counts
+pub served-counts : (task : Task) (answer : Status) (input : SourceView) (old new : FilesView) (before after : Outside) → new ≡ old → Serves task before after answer
+    → FailsOnlyAs status.FeedFault answer before.feed.faults after.feed.faults → FailsOnlyAs status.DiskFault answer before.host.faults after.host.faults
+    → FailsSink answer before.sink.faults after.sink.faults → FailsByAnswer answer (served_in input old before) (served_in input new after)
+served-counts task answer input old new before after kept serves feed disk output =
+    let not = serving-answers task before after answer serves in
+    record {
+      files = inr (not.0, ap (λ (files : FilesView). files.faults) kept);
+      feed = feed;
+      disk = disk;
+      input = inr (not.1, refl);
+      output = output;
+    }
+
+-- what printing a text leaves of the counts
+printed-blames : (is_broken : Bool) (answer : Status) → answer ≡ printed_status is_broken → (answer ≢ status.FileFault) × Blames answer
+printed-blames false answer is = (λ e. let f = is in cc, record { feed = λ e. let f = is in cc; disk = λ e. let f = is in cc; input = λ e. let f = is in cc })
+printed-blames true answer is = (λ e. let f = is in cc, record { feed = λ e. let f = is in cc; disk = λ e. let f = is in cc; input = λ e. let f = is in cc })
+
+pub printed-counts : (text : List ℕ) (old new : World) (answer : Status) → PrintsOnly text old new answer → FailsByAnswer answer old new
+printed-counts text old new answer prints =
+    let not = printed-blames prints.is_broken answer prints.answered in
+    record {
+      files = inr (not.0, ap (λ (files : FilesView). files.faults) prints.files);
+      feed = inr (not.1.feed, ap (λ (feed : FeedView). feed.faults) prints.rest.feed);
+      disk = inr (not.1.disk, prints.rest.host.faults);
+      input = inr (not.1.input, ap (λ (input : SourceView). input.faults) prints.rest.input);
+      output = prints-sink prints.is_broken text old.outside.sink new.outside.sink answer prints.printed prints.answered;
+    }
+
+-- what words that are refused leave of the counts
+word-blames : (fault : WordFault) → (fault_status (fault_of_words fault) ≢ status.FileFault) × Blames (fault_status (fault_of_words fault))
+word-blames (word.Unknown place) = (λ e. cc, record { feed = λ e. cc; disk = λ e. cc; input = λ e. cc })
+word-blames (word.NoValue place) = (λ e. cc, record { feed = λ e. cc; disk = λ e. cc; input = λ e. cc })
+word-blames (word.Twice place) = (λ e. cc, record { feed = λ e. cc; disk = λ e. cc; input = λ e. cc })
+word-blames (word.BadValue place) = (λ e. cc, record { feed = λ e. cc; disk = λ e. cc; input = λ e. cc })
+word-blames word.Modes = (λ e. cc, record { feed = λ e. cc; disk = λ e. cc; input = λ e. cc })
+word-blames word.NoMemory = (λ e. cc, record { feed = λ e. cc; disk = λ e. cc; input = λ e. cc })
+
+pub words-counts : (words : List (List ℕ)) (old new : World) (answer : Status) → RefusesWords words old new answer → FailsByAnswer answer old new
+words-counts words old new answer refuses =
+    let not : (answer ≢ status.FileFault) × Blames answer =
+    subst (λ (a : Status). (a ≢ status.FileFault) × Blames a) (sym refuses.tells.answered) (word-blames refuses.fault) in
+    record {
+      files = inr (not.0, ap (λ (files : FilesView). files.faults) refuses.files);
+      feed = inr (not.1.feed, ap (λ (feed : FeedView). feed.faults) refuses.rest.feed);
+      disk = inr (not.1.disk, refuses.rest.host.faults);
+      input = inr (not.1.input, ap (λ (input : SourceView). input.faults) refuses.rest.input);
+      output = tells-sink (fault_of_words refuses.fault) old.outside.sink new.outside.sink answer refuses.tells;
+    }

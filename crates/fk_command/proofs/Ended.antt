@@ -16,15 +16,15 @@ use Rattle.fk_ledger.specs.Holds.{HoldsLedger, IsLedgerDamagedAt}
 use Rattle.fk_child.specs.View.{View}
 use Rattle.fk_daemon.specs.declared.task.Task.{Task}
 use Rattle.fk_daemon.specs.Outside.{Outside}
+use Rattle.fk_daemon.proofs.Behind.{order}
 use Rattle.fk_daemon.specs.Serving.{HasStatus, Serves, SaysWhyUnopened}
 use Rattle.fk_conf.specs.declared.command.Command.{Command}
 use Rattle.fk_conf.specs.declared.command.Command.TheVariants as command
-use Rattle.fk_conf.specs.declared.option_set.OptionSet.{OptionSet}
 use Rattle.fk_conf.specs.declared.tool.Tool.TheVariants.{Daemon}
 use Rattle.fk_conf.specs.declared.word_fault.WordFault.{WordFault}
 use Rattle.fk_conf.specs.declared.word_fault.WordFault.TheVariants as word
 use Rattle.fk_conf.specs.ConfErr.{conf_fault}
-use Rattle.fk_conf.specs.ReadsWords.{IsWordErr, set_read}
+use Rattle.fk_conf.specs.ReadsWords.{IsWordErr, ReadsWords}
 use Rattle.fk_access.specs.AccessFault.{access_fault}
 use Rattle.fk_command.specs.World.{FilesView, World}
 use Rattle.fk_command.specs.FaultNames.{conf_fault_name, access_fault_name}
@@ -35,16 +35,12 @@ use Rattle.fk_command.specs.Listing.{Lists, FailsToView, printed_status}
 use Rattle.fk_command.specs.Running.{RefusesFiles, Runs, RunsWords, fault_of_words}
 use Rattle.fk_command.specs.Causes.{FailsByAnswer}
 use Rattle.fk_command.specs.Ready.{CountsNone, EndsWell, HoldsRight, HoldsSome, IsReadyFor, MeetsNoFault}
-use Rattle.fk_command.proofs.Asked.{same-command}
-
-order : (n m : ℕ) → (n < m) ⊎ (m ≤ n)
-order n m = omega arith
 
 -- a count with a fault more rose
 rose-counted : (n : ℕ) → Rose n (counted n)
-rose-counted n = elim (order n 18446744073709551615) [
-  | inl low ↦ (omega arith, inl (omega arith))
-  | inr high ↦ (omega arith, inr (omega arith))
+rose-counted n = elim (order 18446744073709551615 n) [
+  | inl high ↦ (omega arith, inr (omega arith))
+  | inr low ↦ (omega arith, inl (omega arith))
 ]
 
 rose : (old new : ℕ) → new ≡ counted old → Rose old new
@@ -95,7 +91,7 @@ NoneBoth = (image : Areas) (ledger : List Change) (place : ℕ) → HoldsLedger 
 
 pub not_damaged : (old new : Option Told) (place : ℕ) → NoneBoth → HoldsSome old → IsSome new → IfTold old new (λ before later. IsLedgerDamagedAt before.areas place) → ⊥
 not_damaged None new place none holds tells damaged = absurd holds
-not_damaged (Some before) None place none holds tells damaged = absurd tells
+not_damaged (Some before) None place none holds tells damaged = cc
 not_damaged (Some before) (Some later) place none holds tells damaged = none before.areas holds.0 place holds.1 damaged
 
 none-ends : (verbosity : Verbosity) (answer : Status) (is_broken : Bool) (old new : Outside) → SaysWhyUnopened verbosity answer is_broken old new
@@ -157,7 +153,7 @@ refused-ends names old new answer refuses conf access calm =
     subst EndsWell (sym refuses.tells.answered)
     (files-end names refuses.fault old.files new.files refuses.fails conf access (subst IsCalm refuses.tells.answered calm))
 
-printed-ends : (is_broken : Bool) (answer : Status) → answer ≡ printed_status is_broken → IsCalm answer → EndsWell answer
+pub printed-ends : (is_broken : Bool) (answer : Status) → answer ≡ printed_status is_broken → IsCalm answer → EndsWell answer
 printed-ends false answer is calm = inl is
 printed-ends true answer is calm = absurd (calm.output is)
 
@@ -171,44 +167,10 @@ view-ends (FileNotRead name) answer old new fails is calm none holds tells = abs
 view-ends (WrongFile name line what) answer old new fails is calm none holds tells = absurd fails
 view-ends (WrongWords why) answer old new fails is calm none holds tells = absurd fails
 
-list-ends : (old new : World) (answer : Status) → Lists old new answer → IsCalm answer → NoneBoth → HoldsSome old.outside.host.told
+pub list-ends : (old new : World) (answer : Status) → Lists old new answer → IsCalm answer → NoneBoth → HoldsSome old.outside.host.told
     → IsSome new.outside.host.told → EndsWell answer
 list-ends old new answer lists calm none holds tells =
     elim lists.came [
       | inl listed ↦ printed-ends listed.is_broken answer listed.answered calm
       | inr nothing ↦ view-ends nothing.fault answer old.outside.host new.outside.host nothing.fails nothing.tells.answered calm none holds tells
-    ]
-
-runs-end : (asked : Command) (old new : World) (answer : Status) → Runs asked old new answer → IsReadyFor asked old → IsCalm answer → NoneBoth
-    → IsSome new.outside.host.told → EndsWell answer
-runs-end (command.Serve conf access packets turns verbose) old new answer runs ready calm none tells =
-    elim runs [
-      | inl serves ↦ serving-ends serves.task old.outside new.outside answer serves.serves calm none ready.2 tells
-      | inr refuses ↦ refused-ends (record { conf = conf; access = access }) old new answer refuses ready.0 ready.1 calm
-    ]
-runs-end (command.Trial conf access quiet verbose) old new answer runs ready calm none tells = ?
-runs-end command.List old new answer runs ready calm none tells = list-ends old new answer runs calm none ready tells
-runs-end (command.Send send) old new answer runs ready calm none tells = absurd runs
-runs-end command.KeyGen old new answer runs ready calm none tells = absurd runs
-runs-end command.Help old new answer runs ready calm none tells = printed-ends runs.is_broken answer runs.answered calm
-runs-end command.Version old new answer runs ready calm none tells = printed-ends runs.is_broken answer runs.answered calm
-
-word-ends : (words : List (List ℕ)) (fault : WordFault) (set : OptionSet) (answer : Status) → IsWordErr Daemon words fault → set_read Daemon words ≡ Ok set
-    → answer ≡ fault_status (fault_of_words fault) → EndsWell answer
-word-ends words word.NoMemory set answer why reads is = inr is
-word-ends words (word.Unknown place) set answer why reads is = absurd cc
-word-ends words (word.NoValue place) set answer why reads is = absurd cc
-word-ends words (word.Twice place) set answer why reads is = absurd cc
-word-ends words (word.BadValue place) set answer why reads is = absurd cc
-word-ends words word.Modes set answer why reads is = absurd cc
-
--- a run in whose way nothing stands
-pub run-ends-well : (words : List (List ℕ)) (old new : World) (answer : Status) → RunsWords words old new answer → FailsByAnswer answer old new → NoneBoth
-    → MeetsNoFault words old new → EndsWell answer
-run-ends-well words old new answer runs fails none meets =
-    let quiet : IsCalm answer = calm answer old new fails meets.counts in
-    elim runs [
-      | inl asked ↦ runs-end asked.command old new answer asked.runs
-          (subst (λ (c : Command). IsReadyFor c old) (same-command words meets.command asked.command meets.reads asked.reads) meets.ready) quiet none meets.tells
-      | inr refused ↦ word-ends words refused.fault meets.reads.set answer refused.why meets.reads.reads refused.tells.answered
     ]

@@ -1,5 +1,7 @@
 pub mod Saying
 pub mod Counting
 pub mod Listed
-pub mod Asked
 pub mod Ended
+pub mod Served
+pub mod Tried
+pub mod Complete

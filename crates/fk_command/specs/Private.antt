@@ -1,25 +1,27 @@
 -- What the contracts of this crate's private functions speak of. No public contract cites it, so no caller has to believe it.
-use Rattle.std.specs.Prelude.{ℕ, Bool, false, not, List, map, ◌==◌}
+use Rattle.std.specs.Prelude.{◌≡◌, ℕ, Bool, false, not, List, map, ◌==◌}
 use Rattle.std.specs.List.{filter, list_any}
+use Rattle.fk_base.specs.declared.status.Status.{Status}
 use Rattle.fk_trace.specs.declared.change.Change.{Change}
 use Rattle.fk_trace.specs.declared.change.Change.TheVariants.{Open, Done}
 use Rattle.fk_trace.specs.declared.change.OpenRecord.{OpenRecord}
 use Rattle.fk_trace.specs.Ledger.{opens}
+use Rattle.fk_log.specs.declared.verbosity.Verbosity.{Verbosity}
 use Rattle.fk_log.specs.Line.{Line}
 use Rattle.fk_log.specs.Line.Line.{ListedLine}
-use Rattle.fk_conf.specs.declared.command.Command.{Command}
-use Rattle.fk_conf.specs.declared.command.Command.TheVariants as command
 use Rattle.fk_child.specs.View.{View}
-use Rattle.fk_daemon.specs.Account.{AreLimits}
 use Rattle.fk_log.specs.Printing.{SinkView}
 use Rattle.fk_daemon.specs.Outside.{FeedView, Outside}
 use Rattle.fk_command.specs.declared.files.FileNames.{FileNames}
 use Rattle.fk_command.specs.declared.refusal.Refusal.{Refusal}
 use Rattle.fk_command.specs.declared.refusal.Refusal.TheVariants as refusal
-use Rattle.fk_command.specs.World.{FilesView, InputView, World}
-use Rattle.fk_command.specs.Faults.{Fault}
+use Rattle.fk_trial.specs.declared.task.TrialTask.{TrialTask}
+use Rattle.fk_trial.specs.Streams.{SourceView, Streams}
+use Rattle.fk_trial.specs.Trial.{Tries}
+use Rattle.fk_command.specs.World.{FilesView, World}
+use Rattle.fk_command.specs.Faults.{Fault, Tells}
 use Rattle.fk_command.specs.Faults.Fault.{WrongWords, FileNotHeld, FileNotRead, WrongFile, DiskFails, DamagedLedger, WantsMemory}
-use Rattle.fk_command.specs.Files.{Names}
+use Rattle.fk_command.specs.Files.{Names, ReadsFiles, FailsFiles}
 
 abbrev pub fault_of : Refusal → Fault
 fault_of (refusal.Words fault) = WrongWords fault
@@ -34,22 +36,34 @@ abbrev pub names_of : FileNames → Names
 names_of names = record { conf = names.conf.now; access = names.access.now }
 
 -- a world of these, where a call is handed all but the input
-abbrev pub served_in : InputView → FilesView → Outside → World
+abbrev pub served_in : SourceView → FilesView → Outside → World
 served_in input files outside = record { files = files; input = input; outside = outside }
 
 -- a world of these, where a call is handed the host and the output alone
-abbrev pub listed_in : FilesView → FeedView → InputView → View → SinkView → World
+abbrev pub listed_in : FilesView → FeedView → SourceView → View → SinkView → World
 listed_in files feed input host sink = record { files = files; input = input; outside = record { feed = feed; host = host; sink = sink } }
 
--- what the words of this program may ask for: no command of another program, and no limits that are none
-abbrev pub IsDaemonCommand : Command → Type 0
-IsDaemonCommand (command.Serve conf access packets turns verbose) = AreLimits (record { packets = packets; turns = turns })
-IsDaemonCommand (command.Trial conf access quiet verbose) = Unit {0}
-IsDaemonCommand command.List = Unit {0}
-IsDaemonCommand (command.Send send) = ⊥
-IsDaemonCommand command.KeyGen = ⊥
-IsDaemonCommand command.Help = Unit {0}
-IsDaemonCommand command.Version = Unit {0}
+-- what a trial is handed
+pub record Bench : Type 0 where
+  pub files : FilesView
+  pub streams : Streams
+
+abbrev pub bench : FilesView → Streams → Bench
+bench files streams = record { files = files; streams = streams }
+
+-- the lines of the input were tried by both files
+pub record TriesFiles (names : Names) (verbosity : Verbosity) (old new : Bench) (answer : Status) : Type 0 where
+  pub task : TrialTask
+  pub told : task.verbosity ≡ verbosity
+  pub files : ReadsFiles names task.policy.conf.now task.policy.access.now old.files new.files
+  pub tries : Tries task old.streams new.streams answer
+
+-- the first fault of the two files was told
+pub record TellsFiles (names : Names) (old new : Bench) (answer : Status) : Type 0 where
+  pub fault : Fault
+  pub fails : FailsFiles names fault old.files new.files
+  pub input : new.streams.input ≡ old.streams.input
+  pub tells : Tells fault old.streams.output new.streams.output answer
 
 -- the change closes the record of this number for good
 abbrev pub settles : ℕ → Change → Bool

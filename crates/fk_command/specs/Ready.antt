@@ -3,6 +3,7 @@ use Rattle.std.specs.Prelude.{◌≡◌, ◌⊎◌, ℕ, List, Option, Some, Non
 use Rattle.fk_base.specs.declared.status.Status.{Status}
 use Rattle.fk_base.specs.declared.status.Status.TheVariants as status
 use Rattle.fk_trace.specs.declared.change.Change.{Change}
+use Rattle.fk_trace.specs.Decision.{FeedTurn}
 use Rattle.fk_host.specs.Count.{Rose}
 use Rattle.fk_host.specs.Disk.{Told}
 use Rattle.fk_host.specs.Files.{bytes_of_file}
@@ -13,6 +14,8 @@ use Rattle.fk_conf.specs.ConfErr.{conf_fault}
 use Rattle.fk_conf.specs.ReadsWords.{ReadsWords}
 use Rattle.fk_access.specs.AccessFault.{access_fault}
 use Rattle.fk_ledger.specs.Holds.{HoldsLedger}
+use Rattle.fk_input.specs.Lines.{pieces}
+use Rattle.fk_trial.specs.Lines.{ReadsTurns}
 use Rattle.fk_command.specs.World.{FilesView, World}
 use Rattle.fk_command.specs.Files.{Names}
 
@@ -24,12 +27,16 @@ HoldsRight test name files = IsSomeAnd files.held (λ held. IsSomeAnd (bytes_of_
 abbrev pub HoldsSome : Option Told → Type 0
 HoldsSome told = IsSomeAnd told (λ now. (ledger : List Change) × HoldsLedger now.areas ledger)
 
+-- each line of the input is a turn, and there are not too many
+abbrev pub HoldsTurns : Option (List ℕ) → Type 0
+HoldsTurns left = IsSomeAnd left (λ text. (turns : List FeedTurn) × ReadsTurns (pieces text) turns None)
+
 -- what the command reads is there, and right
 abbrev pub IsReadyFor : Command → World → Type 0
 IsReadyFor (command.Serve conf access packets turns verbose) at =
     HoldsRight conf_fault conf at.files × HoldsRight access_fault access at.files × HoldsSome at.outside.host.told
 IsReadyFor (command.Trial conf access quiet verbose) at =
-    HoldsRight conf_fault conf at.files × HoldsRight access_fault access at.files
+    HoldsRight conf_fault conf at.files × HoldsRight access_fault access at.files × HoldsTurns at.input.left
 IsReadyFor command.List at = HoldsSome at.outside.host.told
 IsReadyFor (command.Send send) at = ⊥
 IsReadyFor command.KeyGen at = ⊥

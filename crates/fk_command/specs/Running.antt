@@ -14,8 +14,10 @@ use Rattle.fk_conf.specs.ReadsWords.{ReadsWords, IsWordErr}
 use Rattle.fk_daemon.specs.declared.task.Task.{Task}
 use Rattle.fk_log.specs.Printing.{Prints}
 use Rattle.fk_daemon.specs.Serving.{Serves}
+use Rattle.fk_trial.specs.declared.task.TrialTask.{TrialTask}
+use Rattle.fk_trial.specs.Trial.{Tries}
 use Rattle.fk_command.specs.declared.help.TheConstants.{HELP, VERSION}
-use Rattle.fk_command.specs.World.{World, LeavesRest}
+use Rattle.fk_command.specs.World.{World, LeavesRest, SaysTheSame, streams_of}
 use Rattle.fk_command.specs.Faults.{Fault, Tells}
 use Rattle.fk_command.specs.Faults.Fault.{WrongWords, WantsMemory}
 use Rattle.fk_command.specs.Files.{Names, ReadsFiles, FailsFiles}
@@ -45,15 +47,23 @@ pub record PrintsOnly (text : List ℕ) (old new : World) (answer : Status) : Ty
   pub printed : Prints text is_broken old.outside.sink new.outside.sink
   pub answered : answer ≡ printed_status is_broken
 
--- a trial is not run yet, and is refused as words of no command are
-pub record RefusesTrial (old new : World) (answer : Status) : Type 0 where
-  pub files : new.files ≡ old.files
-  pub rest : LeavesRest old new
-  pub tells : Tells (WrongWords usage.Modes) old.outside.sink new.outside.sink answer
+-- both files were read, and the lines of the input were tried by them; nothing was asked of the feed and the host
+pub record TriesByFiles (names : Names) (verbosity : Verbosity) (old new : World) (answer : Status) : Type 0 where
+  pub task : TrialTask
+  pub told : task.verbosity ≡ verbosity
+  pub files : ReadsFiles names task.policy.conf.now task.policy.access.now old.files new.files
+  pub feed : new.outside.feed ≡ old.outside.feed
+  pub host : SaysTheSame old.outside.host new.outside.host
+  pub tries : Tries task (streams_of old) (streams_of new) answer
 
 abbrev pub serving_verbosity : Bool → Verbosity
 serving_verbosity false = verbosity.Normal
 serving_verbosity true = verbosity.Verbose
+
+-- of a trial that is asked to be quiet and verbose nothing but the end is told
+abbrev pub trying_verbosity : Bool → Bool → Verbosity
+trying_verbosity true verbose = verbosity.Quiet
+trying_verbosity false verbose = serving_verbosity verbose
 
 -- what a run does for a command; one of another program is none of this one's
 abbrev pub Runs : Command → World → World → Status → Type 0
@@ -61,7 +71,9 @@ Runs (command.Serve conf access packets turns verbose) old new answer =
     let names : Names = record { conf = conf; access = access } in
     let limits : Limits = record { packets = packets; turns = turns } in
     ServesByFiles names limits (serving_verbosity verbose) old new answer ⊎ RefusesFiles names old new answer
-Runs (command.Trial conf access quiet verbose) old new answer = RefusesTrial old new answer
+Runs (command.Trial conf access quiet verbose) old new answer =
+    let names : Names = record { conf = conf; access = access } in
+    TriesByFiles names (trying_verbosity quiet verbose) old new answer ⊎ RefusesFiles names old new answer
 Runs command.List old new answer = Lists old new answer
 Runs (command.Send send) old new answer = ⊥
 Runs command.KeyGen old new answer = ⊥

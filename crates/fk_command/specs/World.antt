@@ -4,33 +4,30 @@ use Rattle.fk_host.specs.declared.files.HeldFile.{HeldFile}
 use Rattle.fk_host.specs.Disk.{Areas}
 use Rattle.fk_child.specs.View.{View}
 use Rattle.fk_daemon.specs.Outside.{Outside}
+use Rattle.fk_trial.specs.Streams.{SourceView, Streams}
 
 pub record FilesView : Type 0 where
   -- what is held, where they tell
   pub held : Option (List HeldFile)
   pub faults : ℕ
 
-pub record InputView : Type 0 where
-  -- the bytes that it has left, where it tells
-  pub left : Option (List ℕ)
-  pub faults : ℕ
-
 pub record World : Type 1 where
   pub files : FilesView
-  pub input : InputView
+  pub input : SourceView
   -- the feed, the host and the output
   pub outside : Outside
 
 abbrev pub files_by : {F : Type 0} → (F → Option (List HeldFile)) → (F → ℕ) → F → FilesView
 files_by held faults files = record { held = held files; faults = faults files }
 
-abbrev pub input_by : {I : Type 0} → (I → Option (List ℕ)) → (I → ℕ) → I → InputView
-input_by left faults input = record { left = left input; faults = faults input }
-
 -- all together, of the objects by what they mean
-abbrev pub world_by : {F E H I K : Type 0} → (F → FilesView) → (E → H → K → Outside) → (I → InputView) → F → E → H → I → K → World
+abbrev pub world_by : {F E H I K : Type 0} → (F → FilesView) → (E → H → K → Outside) → (I → SourceView) → F → E → H → I → K → World
 world_by files_view outside input_view files feed host input sink =
     record { files = files_view files; input = input_view input; outside = outside feed host sink }
+
+-- the input and the output alone
+abbrev pub streams_of : World → Streams
+streams_of at = record { input = at.input; output = at.outside.sink }
 
 -- the host says what it said
 pub record SaysTheSame (old new : View) : Type 0 where

@@ -20,6 +20,16 @@ pub(crate) struct FileNames<'a> {
     pub(crate) access: &'a [u8],
 }
 
+pub(crate) fn file_names<'a>(conf: &'a Bytes, access: &'a Bytes) -> FileNames<'a>
+    ensures conf { result.conf.now ≡ conf.now }
+    ensures access { result.access.now ≡ access.now }
+{
+    FileNames {
+        conf: conf.as_slice(),
+        access: access.as_slice(),
+    }
+}
+
 /// What the two files say.
 #[derive(Drop)]
 pub(crate) struct Settings {

@@ -1,7 +1,7 @@
 //! The program `fwknopd` whole: the words of the command line are read, and the files that they name; then the turns of the feed are
-//! served, the live records are listed, or a text of the program is printed. A fault is told by one line.
+//! served, the lines of the input are tried, the live records are listed, or a text of the program is printed. A fault is told by one line.
 //!
-//! What serving is stands in `fk_daemon`, what the words and the files mean in `fk_conf` and `fk_access`, and what a journal holds in
+//! What serving is stands in `fk_daemon`, what a trial is in `fk_trial`, what the words and the files mean in `fk_conf` and `fk_access`, and what a journal holds in
 //! `fk_ledger`. The objects of the system are handed in.
 //!
 //! Start at `running`; `specs/Running.antt` says what a run does, and `specs/Causes.antt` which object failed, by its answer.
@@ -16,5 +16,6 @@ mod running;
 mod serving;
 #[cfg(test)]
 mod tests;
+mod trying;
 
 pub use running::fwknopd_run;

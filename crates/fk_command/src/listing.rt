@@ -7,7 +7,8 @@ ghost use Rattle.fk_log.specs.Printing.{Prints, sink_by};
 ghost use Rattle.fk_command.specs.Causes.{FailsByAnswer};
 ghost use Rattle.fk_command.specs.Listing.{Lists, list_text, printed_status};
 ghost use Rattle.fk_command.specs.Private.{listed_in, listed_lines, settles};
-ghost use Rattle.fk_command.specs.World.{FilesView, InputView};
+ghost use Rattle.fk_command.specs.World.{FilesView};
+ghost use Rattle.fk_trial.specs.Streams.{SourceView};
 ghost use Rattle.fk_daemon.specs.Outside.{FeedView};
 
 use crate::refusal::{Refusal, refuse};
@@ -21,10 +22,10 @@ use std::alloc::Global;
 /// Prints the live records of the ledger that the disk holds. All memory is taken before the first line is written.
 pub(crate) fn list_records<H: Host, K: Sink>(alloc: Global, host: &mut H, out: &mut K) -> Status
     ensures lists { let view = view_of H.told H.may_leave H.faults H.above in let sink = sink_by K.written K.faults in
-        (files : FilesView) (feed : FeedView) (input : InputView)
+        (files : FilesView) (feed : FeedView) (input : SourceView)
         → Lists (listed_in files feed input (view host.old) (sink out.old)) (listed_in files feed input (view host.new) (sink out.new)) result }
     ensures counts { let view = view_of H.told H.may_leave H.faults H.above in let sink = sink_by K.written K.faults in
-        (files : FilesView) (feed : FeedView) (input : InputView)
+        (files : FilesView) (feed : FeedView) (input : SourceView)
         → FailsByAnswer result (listed_in files feed input (view host.old) (sink out.old)) (listed_in files feed input (view host.new) (sink out.new)) }
 {
     match Ledger::view(alloc, host) {

@@ -2,27 +2,30 @@ ghost use Rattle.fk_child.specs.View.{view_of};
 ghost use Rattle.fk_daemon.specs.Outside.{feed_by, outside_by};
 ghost use Rattle.fk_log.specs.Printing.{sink_by};
 ghost use Rattle.fk_command.specs.Causes.{FailsByAnswer};
-ghost use Rattle.fk_command.specs.Private.{IsDaemonCommand};
+ghost use Rattle.fk_conf.specs.DaemonCommands.{IsForDaemon};
 ghost use Rattle.fk_command.specs.Ready.{EndsWell, MeetsNoFault};
-ghost use Rattle.fk_command.specs.Running.{Runs, RunsWords, serving_verbosity};
-ghost use Rattle.fk_command.specs.World.{files_by, input_by, world_by};
+ghost use Rattle.fk_command.specs.Running.{Runs, RunsWords, serving_verbosity, trying_verbosity};
+ghost use Rattle.fk_command.specs.World.{files_by, world_by};
+ghost use Rattle.fk_trial.specs.Streams.{source_by};
 ghost use Rattle.std.specs.Prelude.{◌≡◌};
 
-use crate::files::FileNames;
+use crate::files::file_names;
 use crate::help::{HELP, VERSION, print};
 use crate::listing::list_records;
-use crate::refusal::{Refusal, refusal_of_words, refuse};
+use crate::refusal::{refusal_of_words, refuse};
 use crate::serving::{Asked, serve_by_files};
+use crate::trying::try_by_files;
 use fk_base::{Status, Words};
-use fk_conf::{Command, Tool, read_words};
+use fk_conf::{Command, Tool, daemon_words_ask_for_one_command, read_words};
 use fk_host::{Feed, Files, Host, Sink, Source};
 use fk_ledger::no_area_holds_two_ledgers;
-use fk_log::{UsageFault, Verbosity};
+use fk_log::Verbosity;
 use fk_run::Limits;
 use std::alloc::Global;
 
 /// Runs `fwknopd` on the words of its command line, without the program's name. Faults are tried in this order: the words, the
-/// configuration's file, the access file, and then the disk and the feed of a serving run, or the disk of a list.
+/// configuration's file, the access file, and then the disk and the feed of a serving run, the input of a trial, or the disk of a
+/// list.
 pub fn fwknopd_run<F: Files, E: Feed, H: Host, I: Source, K: Sink>(
     alloc: Global,
     words: &Words,
@@ -34,19 +37,20 @@ pub fn fwknopd_run<F: Files, E: Feed, H: Host, I: Source, K: Sink>(
 ) -> Status
     ensures runs { let at = world_by (files_by F.held F.faults)
         (outside_by (feed_by E.told E.faults E.has_ended) (view_of H.told H.may_leave H.faults H.above) (sink_by K.written K.faults))
-        (input_by I.left I.faults) in
+        (source_by I.left I.faults) in
         RunsWords words.now (at files.old feed.old host.old input.old out.old) (at files.new feed.new host.new input.new out.new) result }
     ensures counts { let at = world_by (files_by F.held F.faults)
         (outside_by (feed_by E.told E.faults E.has_ended) (view_of H.told H.may_leave H.faults H.above) (sink_by K.written K.faults))
-        (input_by I.left I.faults) in
+        (source_by I.left I.faults) in
         FailsByAnswer result (at files.old feed.old host.old input.old out.old) (at files.new feed.new host.new input.new out.new) }
     ensures complete { let at = world_by (files_by F.held F.faults)
         (outside_by (feed_by E.told E.faults E.has_ended) (view_of H.told H.may_leave H.faults H.above) (sink_by K.written K.faults))
-        (input_by I.left I.faults) in
+        (source_by I.left I.faults) in
         MeetsNoFault words.now (at files.old feed.old host.old input.old out.old) (at files.new feed.new host.new input.new out.new)
         → EndsWell result }
 {
     no_area_holds_two_ledgers();
+    daemon_words_ask_for_one_command();
     match read_words(alloc, Tool::Daemon, words) {
         Ok(command) => run_command(alloc, &command, files, feed, host, input, out),
         Err(fault) => refuse(refusal_of_words(fault), out),
@@ -63,14 +67,14 @@ fn run_command<F: Files, E: Feed, H: Host, I: Source, K: Sink>(
     input: &mut I,
     out: &mut K,
 ) -> Status
-    requires { IsDaemonCommand command.now }
+    requires { IsForDaemon command.now }
     ensures runs { let at = world_by (files_by F.held F.faults)
         (outside_by (feed_by E.told E.faults E.has_ended) (view_of H.told H.may_leave H.faults H.above) (sink_by K.written K.faults))
-        (input_by I.left I.faults) in
+        (source_by I.left I.faults) in
         Runs command.now (at files.old feed.old host.old input.old out.old) (at files.new feed.new host.new input.new out.new) result }
     ensures counts { let at = world_by (files_by F.held F.faults)
         (outside_by (feed_by E.told E.faults E.has_ended) (view_of H.told H.may_leave H.faults H.above) (sink_by K.written K.faults))
-        (input_by I.left I.faults) in
+        (source_by I.left I.faults) in
         FailsByAnswer result (at files.old feed.old host.old input.old out.old) (at files.new feed.new host.new input.new out.new) }
 {
     match command {
@@ -81,11 +85,9 @@ fn run_command<F: Files, E: Feed, H: Host, I: Source, K: Sink>(
             turns,
             verbose,
         } => {
+            let names = file_names(conf, access);
             let asked = Asked {
-                names: FileNames {
-                    conf: conf.as_slice(),
-                    access: access.as_slice(),
-                },
+                names,
                 limits: Limits {
                     packets: *packets,
                     turns: *turns,
@@ -94,11 +96,30 @@ fn run_command<F: Files, E: Feed, H: Host, I: Source, K: Sink>(
             };
             serve_by_files(alloc, &asked, files, feed, host, out)
         }
-        Command::Trial { .. } => refuse(Refusal::Words(UsageFault::Modes), out),
+        Command::Trial {
+            conf,
+            access,
+            quiet,
+            verbose,
+        } => {
+            let names = file_names(conf, access);
+            let verbosity = trying_verbosity(*quiet, *verbose);
+            try_by_files(alloc, names, verbosity, files, input, out)
+        }
         Command::List => list_records(alloc, host, out),
         Command::Help => print(HELP, out),
         Command::Version => print(VERSION, out),
         Command::Send(_) | Command::KeyGen => unreachable!(),
+    }
+}
+
+fn trying_verbosity(quiet: bool, verbose: bool) -> Verbosity
+    ensures { result ≡ trying_verbosity quiet verbose }
+{
+    if quiet {
+        Verbosity::Quiet
+    } else {
+        verbosity_of(verbose)
     }
 }
 

@@ -29,7 +29,7 @@ fn stanzas() -> &'static [u8] {
 }
 
 /// What a run is given: its words, between spaces; its files, of which one without text is not held; the journal; how many bytes the
-/// output takes; and what fails.
+/// output takes; its input; and what fails.
 #[derive(Clone, Copy)]
 struct Script {
     words: &'static [u8],
@@ -37,6 +37,8 @@ struct Script {
     access: &'static [u8],
     area: &'static [u8],
     room: Option<usize>,
+    input: &'static [u8],
+    failing_read: Option<u64>,
     failing_file: Option<&'static [u8]>,
     failing_disk: Option<u64>,
     failing_turn: Option<u64>,
@@ -49,6 +51,8 @@ fn script_of(words: &'static [u8]) -> Script {
         access: stanzas(),
         area: b"",
         room: None,
+        input: b"",
+        failing_read: None,
         failing_file: None,
         failing_disk: None,
         failing_turn: None,
@@ -105,7 +109,7 @@ fn prints(
     if let Some(call) = script.failing_disk {
         host.fail_disk(call)?;
     }
-    let mut input = MemSource::new(alloc, b"", None)?;
+    let mut input = MemSource::new(alloc, script.input, script.failing_read)?;
     let mut out = MemSink::new(alloc, script.room);
     let ended = fwknopd_run(
         alloc, &words, &mut files, &mut feed, &mut host, &mut input, &mut out,
@@ -326,6 +330,75 @@ fn live_records_are_listed(rt: HostRuntime) -> Result<(), Fail> {
             },
             Status::DiskFault,
             b"disk failed\n",
+        ),
+    ];
+    for (script, status, text) in rows {
+        prints(&rt, rt.alloc(), &script, status, text)?;
+    }
+    Ok(())
+}
+
+// A datagram of four letters has not the shape of one.
+#[test]
+fn lines_are_tried(rt: HostRuntime) -> Result<(), Fail> {
+    let lines = b"5\n6 10.0.0.7 AAAA\n";
+    let trial = Script {
+        input: lines,
+        ..script_of(b"--trial -c conf -a access")
+    };
+    let rows: [(Script, Status, &[u8]); 7] = [
+        (
+            trial,
+            Status::Done,
+            b"ready 0\n6 from 10.0.0.7 refused shape\nsummary turns 2 opens 0 closes 0 settled 0 refused 1 live 0\n",
+        ),
+        (
+            Script {
+                words: b"-a access -v --trial -c conf",
+                ..trial
+            },
+            Status::Done,
+            b"ready 0\n5 turn 1\n6 turn 2\n6 from 10.0.0.7 refused shape\nsummary turns 2 opens 0 closes 0 settled 0 refused 1 live 0\n",
+        ),
+        (
+            Script {
+                words: b"--trial -q -v -c conf -a access",
+                ..trial
+            },
+            Status::Done,
+            b"summary turns 2 opens 0 closes 0 settled 0 refused 1 live 0\n",
+        ),
+        (
+            Script {
+                input: b"5\n6 7\n",
+                ..trial
+            },
+            Status::Config,
+            b"ready 0\nconfig input 2 BadLine\n",
+        ),
+        (
+            Script {
+                failing_read: Some(1),
+                ..trial
+            },
+            Status::ReadFault,
+            b"ready 0\ninput failed\n",
+        ),
+        (
+            Script {
+                access: b"SOURCE ANY\n",
+                ..trial
+            },
+            Status::Config,
+            b"config access 1 NoKey\n",
+        ),
+        (
+            Script {
+                room: Some(8),
+                ..trial
+            },
+            Status::SinkFault,
+            b"ready 0\n",
         ),
     ];
     for (script, status, text) in rows {

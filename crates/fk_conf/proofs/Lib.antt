@@ -1,3 +1,4 @@
+pub mod Asked
 mod WordRows
 mod Rows
 pub mod WordSteps

@@ -3,6 +3,7 @@ pub mod CommandOptions
 pub mod Conf
 pub mod ConfErr
 pub mod ConfWhat
+pub mod DaemonCommands
 pub mod FaultNames
 pub mod OptionSets
 pub mod RcFault

@@ -41,7 +41,9 @@ pub use command::{Command, SendWords};
 pub use conf::Conf;
 pub use conf_err::{ConfErr, ConfWhat};
 pub use fault_names::{conf_fault_name, line_fault_name};
-pub use laws::{client_words_ask_for_one_packet, words_ask_for_their_program};
+pub use laws::{
+    client_words_ask_for_one_packet, daemon_words_ask_for_one_command, words_ask_for_their_program,
+};
 pub use rc_file::{RC_STANZAS_LIMIT, RcFile};
 pub use rc_stanza::RcStanza;
 pub use reading::read_conf;

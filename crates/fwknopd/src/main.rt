@@ -1,14 +1,11 @@
-//! The program `fwknopd`: the words of the command line and the objects of the system, handed to `fk_command`, or to `fk_serve`
-//! where they ask for a trial.
+//! The program `fwknopd`: the words of the command line and the objects of the system, handed to `fk_command`.
 //!
-//! Nothing is decided here but which of the two is asked. What the words and the lines mean, and which number the process ends
-//! with, is said by `fk_serve::fwknopd_run` and `fk_command::serve_command`.
+//! Nothing is decided here. What the words ask for, and which number the process ends with, is said by `fk_command::fwknopd_run`.
 #![tactic(auto)]
 
 use fk_base::{NoMemory, Status, Words};
-use fk_command::serve_command;
+use fk_command::fwknopd_run;
 use fk_host::{DirFiles, StdSink, StdSource, SysHost, UdpFeed};
-use fk_serve::fwknopd_run;
 use std::process::ExitCode;
 use std::{env, io};
 
@@ -19,22 +16,12 @@ fn main(rt: HostRuntime) -> ExitCode {
 /// Runs on the system's objects. Where there is no memory for the words nothing is read or written.
 fn run(rt: &HostRuntime) -> Status {
     match command_words(rt) {
-        Ok(words) if asks_for_trial(&words) => fwknopd_run(
-            rt.alloc(),
-            &words,
-            &mut StdSource::new(rt.reader()),
-            &mut StdSink::new(io::writer(rt)),
-        ),
-        Ok(words) => serve(rt, &words),
+        Ok(words) => run_on(rt, &words),
         Err(NoMemory) => Status::NoMemory,
     }
 }
 
-fn asks_for_trial(words: &Words) -> bool {
-    words.count() > 0 && words.get(0) == b"--trial".as_slice()
-}
-
-fn serve(rt: &HostRuntime, words: &Words) -> Status {
+fn run_on(rt: &HostRuntime, words: &Words) -> Status {
     let Ok(for_files) = rt.clone() else {
         return Status::NoMemory;
     };
@@ -44,12 +31,13 @@ fn serve(rt: &HostRuntime, words: &Words) -> Status {
     let Ok(for_host) = rt.clone() else {
         return Status::NoMemory;
     };
-    serve_command(
+    fwknopd_run(
         rt.alloc(),
         words,
         &mut DirFiles::new(rt.alloc(), for_files),
         &mut UdpFeed::new(for_feed),
         &mut SysHost::new(rt.alloc(), for_host),
+        &mut StdSource::new(rt.reader()),
         &mut StdSink::new(io::writer(rt)),
     )
 }

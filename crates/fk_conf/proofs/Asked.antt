@@ -1,4 +1,4 @@
--- What the words of this program may ask for.
+-- What the words of the daemon may ask for.
 use Rattle.std.proofs.Common.{◌≡◌, ℕ, ◌≤◌, ◌<◌, ◌^◌, nat_le, Bool, true, false, List, [], ◌∷◌, Option, Some, None, IfSome, Result, Ok, Err, if◌then◌else◌, refl, sym, subst, ◌∙◌, arith}
 use Rattle.std.specs.Option.{option_and_then}
 use Rattle.std.proofs.lemmas.Bool.Decides.{nat_tests}
@@ -18,7 +18,7 @@ use Rattle.fk_conf.specs.ReadsWords.{IsCommand, ReadsWords, limit_of, set_read, 
 use Rattle.fk_conf.specs.WordFaults.{words_fault}
 use Rattle.fk_conf.specs.WordPlaces.{is_only}
 use Rattle.std.specs.Prelude.{codes}
-use Rattle.fk_command.specs.Private.{IsDaemonCommand}
+use Rattle.fk_conf.specs.DaemonCommands.{IsForDaemon, IsLimit}
 
 -- a set of this program
 abbrev pub IsDaemonSet : OptionSet → Type 0
@@ -65,23 +65,12 @@ read-within (Some text) n e =
 
 -- a limit that words give is one
 pub limit-within : (option : CommandOption) (words : List (List ℕ)) (limit : Option ℕ) → limit ≡ limit_of option words
-    → IfSome limit (λ most. (1 ≤ most) × (most ≤ 1000000000))
+    → IsLimit limit
 limit-within option words None is = tt
 limit-within option words (Some n) is = read-within (value_of option words) n (sym is)
 
-few : (limit : Option ℕ) → IfSome limit (λ most. (1 ≤ most) × (most ≤ 1000000000)) → IfSome limit (λ most. (1 ≤ most) × (most ≤ 9223372036854775807))
-few None within = tt
-few (Some n) within = let least = within.0 in let most = within.1 in (least, omega arith)
-
-above : (limit : Option ℕ) → IfSome limit (λ most. (1 ≤ most) × (most ≤ 1000000000)) → IfSome limit (λ most. 1 ≤ most)
-above None within = tt
-above (Some n) within = within.0
-
-asks : (words : List (List ℕ)) (set : OptionSet) (asked : Command) → IsDaemonSet set → IsCommand words set asked → IsDaemonCommand asked
-asks words sets.Serve (command.Serve conf access packets turns verbose) is says = record {
-  packets = above packets (limit-within PacketLimit words packets says.1.0);
-  turns = few turns (limit-within TurnLimit words turns says.1.1);
-}
+asks : (words : List (List ℕ)) (set : OptionSet) (asked : Command) → IsDaemonSet set → IsCommand words set asked → IsForDaemon asked
+asks words sets.Serve (command.Serve conf access packets turns verbose) is says = (limit-within PacketLimit words packets says.1.0, limit-within TurnLimit words turns says.1.1)
 asks words sets.Serve _ is says = absurd says
 asks words sets.Trial (command.Trial conf access quiet verbose) is says = tt
 asks words sets.Trial _ is says = absurd says
@@ -96,7 +85,7 @@ asks words sets.Version command.Version is says = tt
 asks words sets.Version _ is says = absurd says
 
 -- the words of this program ask for what is its
-pub daemon-command : (words : List (List ℕ)) (asked : Command) → ReadsWords Daemon words asked → IsDaemonCommand asked
+pub daemon-command : (words : List (List ℕ)) (asked : Command) → ReadsWords Daemon words asked → IsForDaemon asked
 daemon-command words asked reads = asks words reads.set asked (daemon-set words reads.set reads.reads) reads.asks
 
 same-named : (words : List (List ℕ)) (set : OptionSet) (a b : Command) → IsDaemonSet set → IsCommand words set a → IsCommand words set b → a ≡ b

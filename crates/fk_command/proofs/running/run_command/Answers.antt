@@ -1,0 +1,109 @@
+use Rattle.std.proofs.Common.{refl, sym, subst}
+use Rattle.fk_log.specs.Printing.{sink_by}
+use Rattle.fk_child.specs.View.{view_of}
+use Rattle.fk_conf.specs.declared.command.Command.{Command}
+use Rattle.fk_conf.specs.DaemonCommands.{IsForDaemon}
+use Rattle.fk_daemon.specs.Outside.{feed_by, outside_by}
+use Rattle.fk_command.specs.declared.help.TheConstants.{HELP, VERSION}
+use Rattle.fk_command.specs.Running.{PrintsOnly, Runs}
+use Rattle.fk_trial.specs.Streams.{source_by, streams_by}
+use Rattle.fk_command.specs.World.{files_by, world_by}
+use Rattle.fk_command.proofs.Counting.{printed-counts, same-host}
+use Rattle.fk_command.specs.Private.{bench, names_of}
+use Rattle.fk_command.proofs.Served.{asked-serve, limits-are}
+use Rattle.fk_command.proofs.Tried.{asked-trial, tried-counts, tried_in}
+use Rattle.fk_command.proofs.running.run_command.Goals as goal
+
+pub returns-in-List : goal.returns-in-List
+returns-in-List g c =
+    let file = files_by g.F.Files.held g.F.Files.faults c.args.files.now in
+    let feed = feed_by g.E.Feed.told g.E.Feed.faults g.E.Feed.has_ended c.args.feed.now in
+    let input = source_by g.I.Source.left g.I.Source.faults c.args.input.now in
+    let at = world_by (files_by g.F.Files.held g.F.Files.faults)
+    (outside_by (feed_by g.E.Feed.told g.E.Feed.faults g.E.Feed.has_ended) (view_of g.H.Disk.told g.H.Disk.may_leave g.H.Disk.faults g.H.Disk.above) (sink_by g.K.Sink.written g.K.Sink.faults))
+    (source_by g.I.Source.left g.I.Source.faults) in
+    let before = at c.args.files.now c.args.feed.now c.args.host.now c.args.input.now c.args.out.now in
+    let after = at c.args.files.now c.args.feed.now c.list_records.new.host c.args.input.now c.list_records.new.out in
+    record {
+      runs = subst (λ (asked : Command). Runs asked before after c.list_records.result) (sym c.in-List.is) (c.list_records.ensures.lists file feed input);
+      counts = c.list_records.ensures.counts file feed input;
+    }
+
+pub returns-in-Help : goal.returns-in-Help
+returns-in-Help g c =
+    let at = world_by (files_by g.F.Files.held g.F.Files.faults)
+    (outside_by (feed_by g.E.Feed.told g.E.Feed.faults g.E.Feed.has_ended) (view_of g.H.Disk.told g.H.Disk.may_leave g.H.Disk.faults g.H.Disk.above) (sink_by g.K.Sink.written g.K.Sink.faults))
+    (source_by g.I.Source.left g.I.Source.faults) in
+    let view = view_of g.H.Disk.told g.H.Disk.may_leave g.H.Disk.faults g.H.Disk.above in
+    let before = at c.args.files.now c.args.feed.now c.args.host.now c.args.input.now c.args.out.now in
+    let after = at c.args.files.now c.args.feed.now c.args.host.now c.args.input.now c.print.new.out in
+    let prints : PrintsOnly HELP.now before after c.print.result =
+    record {
+      files = refl;
+      rest = record { feed = refl; host = same-host (view c.args.host.now); input = refl };
+      is_broken = c.print.ensures.0;
+      printed = c.print.ensures.1;
+      answered = c.print.ensures.2;
+    } in
+    record {
+      runs = subst (λ (asked : Command). Runs asked before after c.print.result) (sym c.in-Help.is) prints;
+      counts = printed-counts HELP.now before after c.print.result prints;
+    }
+
+pub returns-in-Version : goal.returns-in-Version
+returns-in-Version g c =
+    let at = world_by (files_by g.F.Files.held g.F.Files.faults)
+    (outside_by (feed_by g.E.Feed.told g.E.Feed.faults g.E.Feed.has_ended) (view_of g.H.Disk.told g.H.Disk.may_leave g.H.Disk.faults g.H.Disk.above) (sink_by g.K.Sink.written g.K.Sink.faults))
+    (source_by g.I.Source.left g.I.Source.faults) in
+    let view = view_of g.H.Disk.told g.H.Disk.may_leave g.H.Disk.faults g.H.Disk.above in
+    let before = at c.args.files.now c.args.feed.now c.args.host.now c.args.input.now c.args.out.now in
+    let after = at c.args.files.now c.args.feed.now c.args.host.now c.args.input.now c.print-in-Version.new.out in
+    let prints : PrintsOnly VERSION.now before after c.print-in-Version.result =
+    record {
+      files = refl;
+      rest = record { feed = refl; host = same-host (view c.args.host.now); input = refl };
+      is_broken = c.print-in-Version.ensures.0;
+      printed = c.print-in-Version.ensures.1;
+      answered = c.print-in-Version.ensures.2;
+    } in
+    record {
+      runs = subst (λ (asked : Command). Runs asked before after c.print-in-Version.result) (sym c.in-Version.is) prints;
+      counts = printed-counts VERSION.now before after c.print-in-Version.result prints;
+    }
+
+pub returns-in-Serve : goal.returns-in-Serve
+returns-in-Serve g c =
+    let input = source_by g.I.Source.left g.I.Source.faults c.args.input.now in
+    let at = world_by (files_by g.F.Files.held g.F.Files.faults)
+    (outside_by (feed_by g.E.Feed.told g.E.Feed.faults g.E.Feed.has_ended) (view_of g.H.Disk.told g.H.Disk.may_leave g.H.Disk.faults g.H.Disk.above) (sink_by g.K.Sink.written g.K.Sink.faults))
+    (source_by g.I.Source.left g.I.Source.faults) in
+    let before = at c.args.files.now c.args.feed.now c.args.host.now c.args.input.now c.args.out.now in
+    let after = at c.serve_by_files.new.files c.serve_by_files.new.feed c.serve_by_files.new.host c.args.input.now c.serve_by_files.new.out in
+    let names = names_of c.file_names-names.result in
+    record {
+      runs = subst (λ (asked : Command). Runs asked before after c.serve_by_files.result) (sym c.in-Serve.is)
+          (asked-serve c.in-Serve.conf c.in-Serve.access c.in-Serve.packets c.in-Serve.turns c.in-Serve.verbose names c.verbosity_of.result before after
+          c.serve_by_files.result c.file_names-names.ensures.conf c.file_names-names.ensures.access c.verbosity_of.ensures (c.serve_by_files.ensures.serves input));
+      counts = c.serve_by_files.ensures.counts input;
+    }
+
+pub returns-in-Trial : goal.returns-in-Trial
+returns-in-Trial g c =
+    let feed = feed_by g.E.Feed.told g.E.Feed.faults g.E.Feed.has_ended c.args.feed.now in
+    let host = view_of g.H.Disk.told g.H.Disk.may_leave g.H.Disk.faults g.H.Disk.above c.args.host.now in
+    let file = files_by g.F.Files.held g.F.Files.faults in
+    let at = streams_by (source_by g.I.Source.left g.I.Source.faults) (sink_by g.K.Sink.written g.K.Sink.faults) in
+    let before = bench (file c.args.files.now) (at c.args.input.now c.args.out.now) in
+    let after = bench (file c.try_by_files.new.files) (at c.try_by_files.new.input c.try_by_files.new.out) in
+    let names = names_of c.file_names-names-in-Trial.result in
+    let says = c.file_names-names-in-Trial.ensures in
+    let came = c.try_by_files.ensures in
+    record {
+      runs = subst (λ (asked : Command). Runs asked (tried_in feed host before) (tried_in feed host after) c.try_by_files.result) (sym c.in-Trial.is)
+          (asked-trial feed host c.in-Trial.conf c.in-Trial.access c.in-Trial.quiet c.in-Trial.verbose names c.trying_verbosity-verbosity.result before after
+          c.try_by_files.result says.conf says.access c.trying_verbosity-verbosity.ensures came.tries);
+      counts = tried-counts feed host before after c.try_by_files.result came.files came.input came.sink came.feed came.disk;
+    }
+
+pub serve_by_files-requires : goal.serve_by_files-requires
+serve_by_files-requires g c = let own = subst IsForDaemon c.in-Serve.is c.requires in limits-are _ _ own.0 own.1
