@@ -2,9 +2,10 @@ pub mod CommandOptions
 pub mod Conf
 pub mod ConfErr
 pub mod ConfWhat
+pub mod Limits
+pub mod Operands
 pub mod OptionSets
 pub mod RcFault
-pub mod RcNames
 pub mod RcPrivate
 pub mod RcTable
 pub mod ReadsConf

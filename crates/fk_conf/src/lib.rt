@@ -15,6 +15,8 @@ mod conf;
 mod conf_err;
 mod conf_name;
 mod conf_settings;
+mod operand;
+mod operand_walk;
 mod option_set;
 mod rc_body;
 mod rc_file;
