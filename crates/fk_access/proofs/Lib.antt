@@ -1,4 +1,4 @@
 mod Rows
-pub mod ListsRead
+pub mod NetsRead
 pub mod OneList
 pub mod StanzaSteps

@@ -16,7 +16,7 @@ use Rattle.fk_base.specs.declared.net.Net4.{Net4}
 use Rattle.fk_base.proofs.FoundValues.{ip_in-ip_text, number_in-decimal}
 use Rattle.fk_base.proofs.Joined.{parts_at-join, Lacks-decimal}
 use Rattle.fk_base.proofs.NetTexts.{Lacks-ip_text, Net4-same}
-use Rattle.fk_lines.specs.Lines.{NumberedLine, Setting, lines_of}
+use Rattle.fk_lines.specs.Lines.{NumberedLine, Setting}
 use Rattle.fk_subst.specs.Template.{IsTemplateOf}
 use Rattle.fk_subst.specs.declared.piece.Piece.{Piece}
 use Rattle.fk_subst.proofs.Pieces.{one_template}
@@ -24,10 +24,9 @@ use Rattle.fk_subst.specs.Template.{words_in}
 use Rattle.fk_access.specs.declared.sources.Sources.{Sources}
 use Rattle.fk_access.specs.declared.sources.Sources.TheVariants.{Any, Nets}
 use Rattle.fk_access.specs.declared.stanza.Stanza.{Stanza}
-use Rattle.fk_access.specs.AccessFault.{given_by_lines}
+use Rattle.fk_access.specs.AccessFault.{access_stanzas, given_by_lines}
 use Rattle.fk_access.specs.ReadsAccess.{GivesCommand, GivesSources, IsGiven, IsStanzaOf, ReadsAccess}
 use Rattle.fk_access.specs.SourcesOf.{AreSourcesOf}
-use Rattle.fk_access.specs.StanzaLines.{stanzas_in}
 
 -- a net
 
@@ -161,4 +160,4 @@ stanzas_same (l ∷ lines) (a ∷ x) (b ∷ y) s t =
     ap (λ (n : Stanza). n ∷ x) (stanza_same l a b s.0 t.0) ∙ ap (λ (r : List Stanza). b ∷ r) (stanzas_same lines x y s.1 t.1)
 
 pub one_list : (text : List ℕ) (stanzas others : List Stanza) → ReadsAccess text stanzas → ReadsAccess text others → stanzas ≡ others
-one_list text stanzas others s t = stanzas_same (stanzas_in (lines_of text)) stanzas others s.each t.each
+one_list text stanzas others s t = stanzas_same (access_stanzas text) stanzas others s.each t.each

@@ -4,7 +4,6 @@ use Rattle.std.specs.Prelude.{codes, map}
 use Rattle.fk_lines.specs.Lines.{lines_from, lines_of}
 use Rattle.fk_access.specs.declared.access_err.AccessWhat.TheVariants.{NoKey, NoSource, Twice}
 use Rattle.fk_access.specs.AccessFault.{access_fault}
-use Rattle.fk_access.specs.StanzaLines.{stanzas_in}
 
 empty_is_right : access_fault [] ≡ None
 unfolding lines_from

@@ -11,6 +11,7 @@ use Rattle.fk_lines.specs.declared.fault.LineFault.{LineFault}
 use Rattle.fk_lines.specs.declared.lines.Line.{Line}
 use Rattle.fk_subst.specs.CommandFault.{is_template}
 use Rattle.fk_values.specs.Given.{given_at, said_by}
+use Rattle.fk_values.specs.Stanzas.{before_head, stanza_from, stanzas_in}
 use Rattle.fk_values.specs.Settings.{AddsSetting, NameRule, first_fault, given_by, is_for, rule_fault, rule_of, setting_fault, settings_of}
 use Rattle.fk_values.specs.declared.setting_fault.SettingFault.{SettingFault}
 use Rattle.fk_values.specs.declared.setting_fault.SettingFault.TheVariants as wrong
@@ -20,42 +21,13 @@ use Rattle.fk_access.specs.declared.access_err.AccessErr.{AccessErr}
 use Rattle.fk_access.specs.declared.access_err.AccessErr.TheVariants.{Fault, NoMemory}
 use Rattle.fk_access.specs.declared.access_name.AccessName.TheVariants.{Source, CmdCycleOpen, CmdCycleClose}
 use Rattle.fk_access.specs.declared.stanza.Stanza.{Stanza}
-use Rattle.fk_access.specs.AccessFault.{HasWholeStanza, IsAccessErr, early_fault, given_by_lines, lines_fault, stanza_fault, stanzas_fault, too_many}
-use Rattle.fk_access.specs.AccessTable.{access_rule, access_rules, given_in}
+use Rattle.fk_access.specs.AccessFault.{HasRightFront, IsAccessErr, early_fault, given_by_lines, lines_fault, stanza_fault, stanzas_fault, too_many}
+use Rattle.fk_access.specs.AccessTable.{access_rule, access_rules, given_in, source_name}
 use Rattle.fk_access.specs.AccessValues.{are_sources, is_closing}
 use Rattle.fk_access.specs.AccessWhat.{access_what}
-use Rattle.fk_access.specs.Private.{IsBody, IsErrAt, IsFaultAt, source_name, stanza_from, stanzas_from}
+use Rattle.fk_access.specs.Private.{IsBody, IsErrAt, IsFaultAt}
 use Rattle.fk_access.specs.ReadsAccess.{IsStanzaOf, IsGiven}
 use Rattle.fk_access.specs.StanzaKeys.{has_value, hmac_key, lacks_first, sealing_key, timer_of}
-use Rattle.fk_access.specs.StanzaLines.{before_source, stanzas_in}
-
--- one line of another name, one that begins a stanza, one with a fault
-
-pub before-other : (left rest : List NumberedLine) (number : ℕ) (setting : Setting) → left ≡ said number setting.name setting.value ∷ rest →
-    false ≡ bytes_eq source_name setting.name → before_source left ≡ said number setting.name setting.value ∷ before_source rest
-before-other left rest number setting is other =
-    ap before_source is ∙ sym (ap (λ (b : Bool). if b then [] else said number setting.name setting.value ∷ before_source rest) other)
-
-pub before-source : (left rest : List NumberedLine) (number : ℕ) (setting : Setting) → left ≡ said number setting.name setting.value ∷ rest →
-    true ≡ bytes_eq source_name setting.name → before_source left ≡ []
-before-source left rest number setting is source =
-    ap before_source is ∙ sym (ap (λ (b : Bool). if b then [] else said number setting.name setting.value ∷ before_source rest) source)
-
-pub before-faulty : (left rest : List NumberedLine) (number : ℕ) (fault : LineFault) → left ≡ faulty number fault ∷ rest →
-    before_source left ≡ faulty number fault ∷ before_source rest
-before-faulty left rest number fault is = ap before_source is
-
-pub stanzas-other : (left rest : List NumberedLine) (number : ℕ) (setting : Setting) → left ≡ said number setting.name setting.value ∷ rest →
-    false ≡ bytes_eq source_name setting.name → stanzas_in left ≡ stanzas_in rest
-stanzas-other left rest number setting is other =
-    ap stanzas_in is
-    ∙ sym (ap (λ (b : Bool). if b then (said number setting.name setting.value ∷ before_source rest) ∷ stanzas_in rest else stanzas_in rest) other)
-
-pub stanzas-source : (left rest : List NumberedLine) (line : Line) → left ≡ said line.number line.name.now line.value.now ∷ rest →
-    true ≡ bytes_eq source_name line.name.now → stanzas_in left ≡ stanzas_from (Some line) rest
-stanzas-source left rest line is source =
-    ap stanzas_in is
-    ∙ sym (ap (λ (b : Bool). if b then stanza_from line rest ∷ stanzas_in rest else stanzas_in rest) source)
 
 -- the rule of the name that begins a stanza
 
@@ -86,10 +58,10 @@ bad_sources number setting rest name other =
 
 -- the faults of a stanza
 
-pub lines_err : (source : Line) (left : List NumberedLine) (err : AccessErr) → IsFaultAt (lines_fault (stanza_from source left)) err →
-    IsErrAt (stanza_fault (stanza_from source left)) err
+pub lines_err : (source : Line) (left : List NumberedLine) (err : AccessErr) → IsFaultAt (lines_fault (stanza_from source_name source left)) err →
+    IsErrAt (stanza_fault (stanza_from source_name source left)) err
 lines_err source left (Fault line what) is =
-    ap (λ (f : Option (ℕ × AccessWhat)). option_or f (option_map (λ (w : AccessWhat). (source.number, w)) (lacks_first (given_by_lines (stanza_from source left))))) is
+    ap (λ (f : Option (ℕ × AccessWhat)). option_or f (option_map (λ (w : AccessWhat). (source.number, w)) (lacks_first (given_by_lines (stanza_from source_name source left))))) is
 lines_err source left NoMemory is = absurd is
 
 no_lines_fault : (lines : List NumberedLine) → first_fault access_rules [] lines ≡ None → lines_fault lines ≡ None
@@ -98,35 +70,39 @@ no_lines_fault lines none = ap (option_map (λ (found : ℕ × SettingFault). (f
 same_given : (lines : List NumberedLine) (given : List (Option Setting)) → IsBody lines given → given_at given ≡ given_by_lines lines
 same_given lines given body = λ i n. body.given_is n i
 
-pub stanza_fault-read : (source : Line) (left : List NumberedLine) (given : List (Option Setting)) → IsBody (stanza_from source left) given →
-    stanza_fault (stanza_from source left) ≡ option_map (λ (w : AccessWhat). (source.number, w)) (lacks_first (given_at given))
+pub stanza_fault-read : (source : Line) (left : List NumberedLine) (given : List (Option Setting)) → IsBody (stanza_from source_name source left) given →
+    stanza_fault (stanza_from source_name source left) ≡ option_map (λ (w : AccessWhat). (source.number, w)) (lacks_first (given_at given))
 stanza_fault-read source left given body =
-    let none = no_lines_fault (stanza_from source left) body.faultless in
-    let same = same_given (stanza_from source left) given body in
-    ap (λ (f : Option (ℕ × AccessWhat)). option_or f (option_map (λ (w : AccessWhat). (source.number, w)) (lacks_first (given_by_lines (stanza_from source left))))) none
+    let none = no_lines_fault (stanza_from source_name source left) body.faultless in
+    let same = same_given (stanza_from source_name source left) given body in
+    ap (λ (f : Option (ℕ × AccessWhat)). option_or f (option_map (λ (w : AccessWhat). (source.number, w)) (lacks_first (given_by_lines (stanza_from source_name source left))))) none
     ∙ ap (λ (g : ℕ → Option Setting). option_map (λ (w : AccessWhat). (source.number, w)) (lacks_first g)) (sym same)
 
-pub lacking_err : (source : Line) (left : List NumberedLine) (given : List (Option Setting)) (err : AccessErr) → IsBody (stanza_from source left) given →
-    IsErrAt (option_map (λ (w : AccessWhat). (source.number, w)) (lacks_first (given_at given))) err → IsErrAt (stanza_fault (stanza_from source left)) err
+pub lacking_err : (source : Line) (left : List NumberedLine) (given : List (Option Setting)) (err : AccessErr) → IsBody (stanza_from source_name source left) given →
+    IsErrAt (option_map (λ (w : AccessWhat). (source.number, w)) (lacks_first (given_at given))) err → IsErrAt (stanza_fault (stanza_from source_name source left)) err
 lacking_err source left given (Fault line what) body is = stanza_fault-read source left given body ∙ is
 lacking_err source left given NoMemory body is = stanza_fault-read source left given body ∙ is
 
-pub stanza_is_read : (source : Line) (left : List NumberedLine) (given : List (Option Setting)) (stanza : Stanza) → IsBody (stanza_from source left) given →
-    stanza.line ≡ source.number → IsGiven (given_at given) stanza → IsStanzaOf (stanza_from source left) stanza
+pub stanza_is_read : (source : Line) (left : List NumberedLine) (given : List (Option Setting)) (stanza : Stanza) → IsBody (stanza_from source_name source left) given →
+    stanza.line ≡ source.number → IsGiven (given_at given) stanza → IsStanzaOf (stanza_from source_name source left) stanza
 stanza_is_read source left given stanza body line is =
-    (line, subst (λ (g : ℕ → Option Setting). IsGiven g stanza) (same_given (stanza_from source left) given body) is)
+    (line, subst (λ (g : ℕ → Option Setting). IsGiven g stanza) (same_given (stanza_from source_name source left) given body) is)
 
 -- the stanzas of a file, one by one
 
 -- so many stanzas were read, and these are left
 pub record IsAccessReading (lines : List NumberedLine) (left : List (List NumberedLine)) (access : List Stanza) : Type 0 where
   pub done : List (List NumberedLine)
-  pub split : stanzas_in lines ≡ done ++ left
+  pub split : stanzas_in source_name lines ≡ done ++ left
   pub each : AllZip IsStanzaOf done access
-  pub fault_is : stanzas_fault 256 (stanzas_in lines) ≡ stanzas_fault (256 - length access) left
+  pub fault_is : (others : List (List NumberedLine)) → stanzas_fault 256 (done ++ others) ≡ stanzas_fault (256 - length access) others
 
-pub access_begins : (lines left_lines : List NumberedLine) (left : List (List NumberedLine)) → stanzas_in lines ≡ left → IsAccessReading lines left []
-access_begins lines left_lines left is = record { done = []; split = is; each = tt; fault_is = ap (stanzas_fault 256) is }
+pub access_begins : (lines left_lines : List NumberedLine) (left : List (List NumberedLine)) → stanzas_in source_name lines ≡ left → IsAccessReading lines left []
+access_begins lines left_lines left is = record { done = []; split = is; each = tt; fault_is = λ others. refl }
+
+fault_left : (lines : List NumberedLine) (left : List (List NumberedLine)) (access : List Stanza) → IsAccessReading lines left access →
+    stanzas_fault 256 (stanzas_in source_name lines) ≡ stanzas_fault (256 - length access) left
+fault_left lines left access before = ap (stanzas_fault 256) before.split ∙ before.fault_is left
 
 AllZip-push : (lines : List (List NumberedLine)) (stanzas : List Stanza) (line : List NumberedLine) (stanza : Stanza) → AllZip IsStanzaOf lines stanzas →
     IsStanzaOf line stanza → AllZip IsStanzaOf (lines ++ line ∷ []) (stanzas ++ stanza ∷ [])
@@ -149,38 +125,49 @@ access_goes_on lines stanza rest left access next read before few rest_is is fau
       done = before.done ++ stanza ∷ [];
       split = before.split ∙ ap (λ (r : List (List NumberedLine)). before.done ++ stanza ∷ r) rest_is ∙ sym (append_assoc before.done (stanza ∷ []) left);
       each = subst (λ (s : List Stanza). AllZip IsStanzaOf (before.done ++ stanza ∷ []) s) (sym next_is) (AllZip-push before.done access stanza read before.each is);
-      fault_is = before.fault_is ∙ room_left (256 - length access) (256 - length next) stanza rest room
-          ∙ ap (λ (f : Option (ℕ × AccessWhat)). option_or f (stanzas_fault (256 - length next) rest)) faultless
-          ∙ ap (stanzas_fault (256 - length next)) rest_is;
+      fault_is = λ others.
+          ap (stanzas_fault 256) (append_assoc before.done (stanza ∷ []) others)
+          ∙ before.fault_is (stanza ∷ others) ∙ room_left (256 - length access) (256 - length next) stanza others room
+          ∙ ap (λ (f : Option (ℕ × AccessWhat)). option_or f (stanzas_fault (256 - length next) others)) faultless;
     }
 
-pub access_has_stanza : (text : List ℕ) (stanza : List NumberedLine) (rest : List (List NumberedLine)) (access : List Stanza) →
-    IsAccessReading (lines_of text) (stanza ∷ rest) access → stanza_fault stanza ≡ None → HasWholeStanza text
-access_has_stanza text stanza rest access before faultless =
-    record { before = before.done; stanza = stanza; behind = rest; split = before.split; faultless = faultless }
+pub access_has_front : (text : List ℕ) (stanza : List NumberedLine) (rest : List (List NumberedLine)) (access : List Stanza) →
+    early_fault (before_head source_name (lines_of text)) ≡ None → IsAccessReading (lines_of text) (stanza ∷ rest) access → length access < 256 →
+    stanza_fault stanza ≡ None → HasRightFront text
+access_has_front text stanza rest access early before few faultless =
+    let room : 256 - length access ≡ suc (255 - length access) = omega arith in
+    record {
+      front = before.done;
+      stanza = stanza;
+      behind = rest;
+      split = before.split;
+      early = early;
+      faultless = before.fault_is (stanza ∷ []) ∙ room_left (256 - length access) (255 - length access) stanza [] room
+          ∙ ap (λ (f : Option (ℕ × AccessWhat)). option_or f (stanzas_fault (255 - length access) [])) faultless;
+    }
 
 pub access_is_wrong : (text : List ℕ) (stanza : List NumberedLine) (rest : List (List NumberedLine)) (access : List Stanza) (err : AccessErr) →
-    early_fault (before_source (lines_of text)) ≡ None → IsAccessReading (lines_of text) (stanza ∷ rest) access → length access < 256 →
+    early_fault (before_head source_name (lines_of text)) ≡ None → IsAccessReading (lines_of text) (stanza ∷ rest) access → length access < 256 →
     IsErrAt (stanza_fault stanza) err → IsAccessErr text err
 access_is_wrong text stanza rest access (Fault line what) early before few is =
     let room : 256 - length access ≡ suc (255 - length access) = omega arith in
-    let late = before.fault_is ∙ room_left (256 - length access) (255 - length access) stanza rest room
+    let late = fault_left (lines_of text) (stanza ∷ rest) access before ∙ room_left (256 - length access) (255 - length access) stanza rest room
     ∙ ap (λ (f : Option (ℕ × AccessWhat)). option_or f (stanzas_fault (255 - length access) rest)) is in
-    ap (λ (f : Option (ℕ × AccessWhat)). option_or f (stanzas_fault 256 (stanzas_in (lines_of text)))) early ∙ late
-access_is_wrong text stanza rest access NoMemory early before few is = access_has_stanza text stanza rest access before is
+    ap (λ (f : Option (ℕ × AccessWhat)). option_or f (stanzas_fault 256 (stanzas_in source_name (lines_of text)))) early ∙ late
+access_is_wrong text stanza rest access NoMemory early before few is = access_has_front text stanza rest access early before few is
 
 pub access_is_full : (lines : List NumberedLine) (source : Line) (left : List NumberedLine) (rest : List (List NumberedLine)) (access : List Stanza) →
-    IsAccessReading lines (stanza_from source left ∷ rest) access → length access ≡ 256 →
-    stanzas_fault 256 (stanzas_in lines) ≡ Some (source.number, TooMany)
+    IsAccessReading lines (stanza_from source_name source left ∷ rest) access → length access ≡ 256 →
+    stanzas_fault 256 (stanzas_in source_name lines) ≡ Some (source.number, TooMany)
 access_is_full lines source left rest access before full =
     let none : 256 - length access ≡ 0 = omega arith in
-    before.fault_is ∙ ap (λ (k : ℕ). stanzas_fault k (stanza_from source left ∷ rest)) none
+    fault_left lines (stanza_from source_name source left ∷ rest) access before ∙ ap (λ (k : ℕ). stanzas_fault k (stanza_from source_name source left ∷ rest)) none
 
 pub access_ends : (lines : List NumberedLine) (access : List Stanza) → IsAccessReading lines [] access →
-    (stanzas_fault 256 (stanzas_in lines) ≡ None) × AllZip IsStanzaOf (stanzas_in lines) access
+    (stanzas_fault 256 (stanzas_in source_name lines) ≡ None) × AllZip IsStanzaOf (stanzas_in source_name lines) access
 access_ends lines access before =
     let all = before.split ∙ append-nil before.done in
-    (before.fault_is, subst (λ (s : List (List NumberedLine)). AllZip IsStanzaOf s access) (sym all) before.each)
+    (fault_left lines [] access before, subst (λ (s : List (List NumberedLine)). AllZip IsStanzaOf s access) (sym all) before.each)
 
 -- a stanza lacks nothing
 pub record IsComplete (given : ℕ → Option Setting) : Type 0 where

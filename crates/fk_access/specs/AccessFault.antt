@@ -4,14 +4,18 @@ use Rattle.std.specs.Option.{option_map, option_or}
 use Rattle.fk_lines.specs.Lines.{NumberedLine, Setting, lines_of}
 use Rattle.fk_lines.specs.declared.fault.LineFault.{LineFault}
 use Rattle.fk_values.specs.Settings.{first_fault, given_by, rule_of, settings_of}
+use Rattle.fk_values.specs.Stanzas.{before_head, stanzas_in}
 use Rattle.fk_access.specs.declared.access_err.AccessWhat.{AccessWhat}
 use Rattle.fk_access.specs.declared.access_err.AccessWhat.TheVariants.{UnknownName, NoSource, TooMany, Line}
 use Rattle.fk_access.specs.declared.access_err.AccessErr.{AccessErr}
 use Rattle.fk_access.specs.declared.access_err.AccessErr.TheVariants.{Fault, NoMemory}
-use Rattle.fk_access.specs.AccessTable.{access_rules}
+use Rattle.fk_access.specs.AccessTable.{access_rules, source_name}
 use Rattle.fk_access.specs.AccessWhat.{access_what}
 use Rattle.fk_access.specs.StanzaKeys.{lacks_first}
-use Rattle.fk_access.specs.StanzaLines.{before_source, stanzas_in}
+
+-- the stanzas of a text: the lists of its lines from one SOURCE line to the next
+abbrev pub access_stanzas : List ℕ → List (List NumberedLine)
+access_stanzas text = stanzas_in source_name (lines_of text)
 
 -- the fault of a name with which no stanza has begun
 abbrev pub early_name : List ℕ → AccessWhat
@@ -55,18 +59,19 @@ stanzas_fault (suc room) (stanza ∷ stanzas) = option_or (stanza_fault stanza) 
 
 -- the first fault of an access file, with the number of its line: of the lines before its stanzas, then of the stanzas
 abbrev pub access_fault : List ℕ → Option (ℕ × AccessWhat)
-access_fault text = option_or (early_fault (before_source (lines_of text))) (stanzas_fault 256 (stanzas_in (lines_of text)))
+access_fault text = option_or (early_fault (before_head source_name (lines_of text))) (stanzas_fault 256 (access_stanzas text))
 
--- some stanza of the file has no fault
-pub record HasWholeStanza (text : List ℕ) : Type 0 where
-  pub before : List (List NumberedLine)
+-- neither the lines before the stanzas nor the stanzas up to some one have a fault
+pub record HasRightFront (text : List ℕ) : Type 0 where
+  pub front : List (List NumberedLine)
   pub stanza : List NumberedLine
   pub behind : List (List NumberedLine)
-  pub split : stanzas_in (lines_of text) ≡ before ++ stanza ∷ behind
-  pub faultless : stanza_fault stanza ≡ None
+  pub split : access_stanzas text ≡ front ++ stanza ∷ behind
+  pub early : early_fault (before_head source_name (lines_of text)) ≡ None
+  pub faultless : stanzas_fault 256 (front ++ stanza ∷ []) ≡ None
 
 -- The answer where there is no access list: the first fault of the file, or want of memory, which is asked for only for a
--- stanza that has no fault.
+-- stanza up to which there is no fault.
 abbrev pub IsAccessErr : List ℕ → AccessErr → Type 0
 IsAccessErr text (Fault line what) = access_fault text ≡ Some (line, what)
-IsAccessErr text NoMemory = HasWholeStanza text
+IsAccessErr text NoMemory = HasRightFront text

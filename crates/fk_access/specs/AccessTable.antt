@@ -6,6 +6,7 @@ use Rattle.fk_subst.specs.CommandFault.{is_template}
 use Rattle.fk_lines.specs.Lines.{Setting}
 use Rattle.fk_values.specs.Settings.{NameRule, named, reads_as}
 use Rattle.fk_values.specs.Values.{number_within, flag_in, hash_in, has_len_within, key_in, base64_key_in}
+use Rattle.fk_values.specs.declared.time.TheConstants.{LONGEST_TIME}
 use Rattle.fk_access.specs.AccessValues.{are_sources, pairs_in, is_closing}
 use Rattle.fk_access.specs.declared.access_name.AccessName.{AccessName}
 use Rattle.fk_access.specs.declared.access_name.AccessName.TheVariants.{Source, OpenPorts, RestrictPorts, Key, KeyBase64, HmacKey, HmacKeyBase64, HmacDigestType, RequireUsername, RequireSourceAddress, AccessExpireEpoch, CmdCycleOpen, CmdCycleClose, CmdCycleTimer, FwAccessTimeout}
@@ -25,7 +26,7 @@ access_rule RequireSourceAddress = named (codes "REQUIRE_SOURCE_ADDRESS") 7 (rea
 access_rule AccessExpireEpoch = named (codes "ACCESS_EXPIRE_EPOCH") 8 (reads_as (number_within 0 GREATEST_MOMENT))
 access_rule CmdCycleOpen = named (codes "CMD_CYCLE_OPEN") 9 is_template
 access_rule CmdCycleClose = named (codes "CMD_CYCLE_CLOSE") 10 is_closing
-access_rule CmdCycleTimer = named (codes "CMD_CYCLE_TIMER") 11 (reads_as (number_within 1 604800))
+access_rule CmdCycleTimer = named (codes "CMD_CYCLE_TIMER") 11 (reads_as (number_within 1 LONGEST_TIME))
 access_rule FwAccessTimeout = named (codes "FW_ACCESS_TIMEOUT") 12 (reads_as (number_within 0 18446744073709551615))
 
 -- every name
@@ -37,6 +38,10 @@ access_names =
 -- the rules of all names
 abbrev pub access_rules : List NameRule
 access_rules = map access_rule access_names
+
+-- the name of a line that begins a stanza
+abbrev pub source_name : List ℕ
+source_name = (access_rule Source).name
 
 -- what is given for a name, where it is
 abbrev pub given_in : (ℕ → Option Setting) → AccessName → Option Setting

@@ -1,32 +1,16 @@
 -- The values that only an access file has.
-use Rattle.std.specs.Prelude.{◌≡◌, ℕ, Bool, ◌&&◌, ◌||◌, nat_le, not, List, [], ◌∷◌, length, map, codes, Option, Some, None, if◌then◌else◌}
+use Rattle.std.specs.Prelude.{ℕ, Bool, ◌&&◌, ◌||◌, not, List, codes, Option}
 use Rattle.std.specs.List.{AllZip, list_all}
-use Rattle.std.specs.Option.{option_map}
 use Rattle.std.specs.Str.{bytes_eq}
 use Rattle.fk_base.specs.Net.{SpellsNet}
-use Rattle.fk_base.specs.PairText.{pair_in}
 use Rattle.fk_base.specs.declared.pair.Pair.{Pair}
 use Rattle.fk_base.specs.declared.net.Net4.{Net4}
 use Rattle.fk_subst.specs.CommandFault.{is_template}
-use Rattle.fk_values.specs.Values.{is_net_text, items_of}
+use Rattle.fk_values.specs.Values.{has_items_within, is_net_text, items_of, pairs_within}
 
--- the values, where there are all
-abbrev pub all_of : {X : Type 0} → List (Option X) → Option (List X)
-all_of [] = Some []
-all_of (None ∷ others) = None
-all_of (Some x ∷ others) = option_map (λ xs. x ∷ xs) (all_of others)
-
--- from one item to so many
-abbrev pub has_items_within : ℕ → List (List ℕ) → Bool
-has_items_within most items = nat_le 1 (length items) && nat_le (length items) most
-
--- the pairs of items, of which there are 1 to 64
-abbrev pub pairs_of_items : List (List ℕ) → Option (List Pair)
-pairs_of_items items = if has_items_within 64 items then all_of (map pair_in items) else None
-
--- a list of pairs
+-- a list of 1 to 64 pairs
 abbrev pub pairs_in : List ℕ → Option (List Pair)
-pairs_in value = pairs_of_items (items_of value)
+pairs_in value = pairs_within 64 value
 
 -- the items, of which there are 1 to 16, are nets
 abbrev pub are_nets : List (List ℕ) → Bool

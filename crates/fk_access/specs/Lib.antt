@@ -6,4 +6,3 @@ pub mod Private
 pub mod ReadsAccess
 pub mod SourcesOf
 pub mod StanzaKeys
-pub mod StanzaLines

@@ -4,7 +4,6 @@ use Rattle.std.specs.Prelude.{◌≡◌, ℕ, true, List, [], ◌∷◌, Option,
 use Rattle.std.specs.List.{list_all}
 use Rattle.std.specs.Str.{bytes_eq}
 use Rattle.fk_base.specs.Characters.{is_line_byte}
-use Rattle.fk_lines.specs.Cursor.{said}
 use Rattle.fk_lines.specs.Lines.{NumberedLine, Setting}
 use Rattle.fk_lines.specs.declared.lines.Line.{Line}
 use Rattle.fk_values.specs.Given.{given_at}
@@ -12,28 +11,13 @@ use Rattle.fk_values.specs.Settings.{first_fault}
 use Rattle.fk_access.specs.declared.access_err.AccessWhat.{AccessWhat}
 use Rattle.fk_access.specs.declared.access_err.AccessErr.{AccessErr}
 use Rattle.fk_access.specs.declared.access_err.AccessErr.TheVariants.{Fault, NoMemory}
-use Rattle.fk_access.specs.declared.access_name.AccessName.TheVariants.{Source}
 use Rattle.fk_access.specs.AccessFault.{given_by_lines}
-use Rattle.fk_access.specs.AccessTable.{access_rule, access_rules}
-use Rattle.fk_access.specs.StanzaLines.{before_source, stanzas_in}
-
--- the name of a line that begins a stanza
-abbrev pub source_name : List ℕ
-source_name = (access_rule Source).name
+use Rattle.fk_access.specs.AccessTable.{access_rules, source_name}
 
 -- a line that begins a stanza
 pub record IsSourceLine (line : Line) : Type 0 where
   pub name : bytes_eq source_name line.name.now ≡ true
   pub bytes : list_all is_line_byte line.value.now ≡ true
-
--- the stanza that a line begins, before these lines
-abbrev pub stanza_from : Line → List NumberedLine → List NumberedLine
-stanza_from source left = said source.number source.name.now source.value.now ∷ before_source left
-
--- the stanza that a line begins, where there is one, and those behind it
-abbrev pub stanzas_from : Option Line → List NumberedLine → List (List NumberedLine)
-stanzas_from None left = []
-stanzas_from (Some source) left = stanza_from source left ∷ stanzas_in left
 
 -- the answer has this cause, or memory ran out where there is none
 abbrev pub IsErrAt : Option (ℕ × AccessWhat) → AccessErr → Type 0

@@ -4,7 +4,7 @@ use Rattle.std.specs.List.{AllZip}
 use Rattle.std.specs.Option.{option_map}
 use Rattle.fk_base.specs.declared.hash_kind.HashKind.TheVariants.{Sha256}
 use Rattle.fk_base.specs.declared.moment.TheConstants.{GREATEST_MOMENT}
-use Rattle.fk_lines.specs.Lines.{NumberedLine, Setting, lines_of}
+use Rattle.fk_lines.specs.Lines.{NumberedLine, Setting}
 use Rattle.fk_subst.specs.Template.{IsTemplateOf}
 use Rattle.fk_subst.specs.declared.piece.Piece.{Piece}
 use Rattle.fk_values.specs.Settings.{read_of}
@@ -12,12 +12,11 @@ use Rattle.fk_values.specs.Values.{number_within, flag_in, hash_in}
 use Rattle.fk_access.specs.declared.access_name.AccessName.TheVariants.{Source, OpenPorts, RestrictPorts, HmacDigestType, RequireUsername, RequireSourceAddress, AccessExpireEpoch, CmdCycleOpen, CmdCycleClose}
 use Rattle.fk_access.specs.declared.sources.Sources.{Sources}
 use Rattle.fk_access.specs.declared.stanza.Stanza.{Stanza}
-use Rattle.fk_access.specs.AccessFault.{access_fault, given_by_lines}
+use Rattle.fk_access.specs.AccessFault.{access_fault, access_stanzas, given_by_lines}
 use Rattle.fk_access.specs.AccessTable.{given_in}
 use Rattle.fk_access.specs.AccessValues.{pairs_in}
 use Rattle.fk_access.specs.SourcesOf.{AreSourcesOf}
 use Rattle.fk_access.specs.StanzaKeys.{hmac_key, sealing_key, timer_of}
-use Rattle.fk_access.specs.StanzaLines.{stanzas_in}
 
 -- the sources that a setting gives
 abbrev pub GivesSources : Option Setting → Sources → Type 0
@@ -52,4 +51,4 @@ IsStanzaOf (source ∷ lines) stanza = (stanza.line ≡ source.number) × IsGive
 -- the access file has no fault, and its stanzas say this, one by one
 pub record ReadsAccess (text : List ℕ) (stanzas : List Stanza) : Type 0 where
   pub faultless : access_fault text ≡ None
-  pub each : AllZip IsStanzaOf (stanzas_in (lines_of text)) stanzas
+  pub each : AllZip IsStanzaOf (access_stanzas text) stanzas

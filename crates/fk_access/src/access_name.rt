@@ -13,7 +13,8 @@ use fk_base::GREATEST_MOMENT;
 use fk_lines::Line;
 use fk_subst::is_template;
 use fk_values::{
-    Given, MOST_SETTINGS, is_base64_key, is_key, read_flag, read_hash_name, read_number,
+    Given, LONGEST_TIME, MOST_SETTINGS, is_base64_key, is_key, read_flag, read_hash_name,
+    read_number,
 };
 
 /// A name of an access file.
@@ -53,9 +54,6 @@ const ACCESS_NAMES: [AccessName; 15] = [
     AccessName::CmdCycleTimer,
     AccessName::FwAccessTimeout,
 ];
-
-/// The longest time that a stanza lets anybody in, in seconds: a week.
-pub(crate) const LONGEST_TIMER: u64 = 604_800;
 
 impl AccessName {
     /// The name that a line has.
@@ -127,7 +125,7 @@ impl AccessName {
             AccessName::AccessExpireEpoch => read_number(value, 0, GREATEST_MOMENT).is_some(),
             AccessName::CmdCycleOpen => is_template(value),
             AccessName::CmdCycleClose => value != b"NONE".as_slice() && is_template(value),
-            AccessName::CmdCycleTimer => read_number(value, 1, LONGEST_TIMER).is_some(),
+            AccessName::CmdCycleTimer => read_number(value, 1, LONGEST_TIME).is_some(),
             AccessName::FwAccessTimeout => read_number(value, 0, u64::MAX).is_some(),
         }
     }

@@ -4,10 +4,10 @@ ghost use Rattle.std.specs.Str.{bytes_eq};
 ghost use Rattle.fk_base.specs.Characters.{is_line_byte};
 ghost use Rattle.fk_values.specs.Given.{given_at, said_by};
 ghost use Rattle.fk_values.specs.Settings.{AddsSetting, setting_fault};
+ghost use Rattle.fk_values.specs.Stanzas.{stanza_from, stanzas_from, stanzas_in};
 ghost use Rattle.fk_access.specs.AccessFault.{lines_fault};
-ghost use Rattle.fk_access.specs.AccessTable.{access_rules};
-ghost use Rattle.fk_access.specs.StanzaLines.{stanzas_in};
-ghost use Rattle.fk_access.specs.Private.{IsBody, IsFaultAt, IsSourceLine, source_name, stanza_from, stanzas_from};
+ghost use Rattle.fk_access.specs.AccessTable.{access_rules, source_name};
+ghost use Rattle.fk_access.specs.Private.{IsBody, IsFaultAt, IsSourceLine};
 
 use crate::AccessErr;
 use crate::access_err::err_at;
@@ -22,10 +22,10 @@ pub(crate) fn read_body<'a>(
 ) -> Result<(Given<'a>, Option<Line<'a>>), AccessErr>
     requires { IsSourceLine source }
     ensures body { MatchResult result
-        (λ read. IsBody (stanza_from source.entry lines.old.left) read.0)
-        (IsFaultAt (lines_fault (stanza_from source.entry lines.old.left))) }
+        (λ read. IsBody (stanza_from source_name source.entry lines.old.left) read.0)
+        (IsFaultAt (lines_fault (stanza_from source_name source.entry lines.old.left))) }
     ensures source { IfOk result (λ read. given_at read.0 0 ≡ Some (said_by source.entry)) }
-    ensures behind { IfOk result (λ read. stanzas_in lines.old.left ≡ stanzas_from read.1 lines.new.left) }
+    ensures behind { IfOk result (λ read. stanzas_in source_name lines.old.left ≡ stanzas_from source_name read.1 lines.new.left) }
     ensures next { IfOk result (λ read. IfSome read.1 IsSourceLine) }
 {
     let mut given = Given::new();

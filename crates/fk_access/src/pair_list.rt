@@ -73,7 +73,7 @@ impl PairList {
     }
 }
 
-/// The pairs of a list, where it is one.
+/// The pairs of a list of 1 to 64 of them.
 pub(crate) fn read_pairs(value: &[u8]) -> Option<PairList>
     ensures { result ≡ pairs_in value.now }
 {

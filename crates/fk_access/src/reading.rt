@@ -1,8 +1,9 @@
 ghost use Rattle.std.specs.Prelude.{◌≡◌, ◌≤◌, IfOk, IfSome, MatchResult, None, length};
+ghost use Rattle.fk_values.specs.Stanzas.{before_head, stanza_from, stanzas_from, stanzas_in};
 ghost use Rattle.fk_access.specs.AccessFault.{IsAccessErr, early_fault, early_name, stanza_fault};
-ghost use Rattle.fk_access.specs.Private.{IsErrAt, IsFaultAt, IsSourceLine, stanza_from, stanzas_from};
+ghost use Rattle.fk_access.specs.AccessTable.{source_name};
+ghost use Rattle.fk_access.specs.Private.{IsErrAt, IsFaultAt, IsSourceLine};
 ghost use Rattle.fk_access.specs.ReadsAccess.{IsStanzaOf, ReadsAccess};
-ghost use Rattle.fk_access.specs.StanzaLines.{before_source, stanzas_in};
 
 use crate::access_err::err_at;
 use crate::access_name::AccessName;
@@ -44,9 +45,9 @@ pub fn read_access(alloc: Global, text: &[u8]) -> Result<Access, AccessErr>
 /// The line that begins the first stanza. No other line may stand before it.
 fn first_source<'a>(lines: &mut Lines<'a>) -> Result<Option<Line<'a>>, AccessErr>
     ensures early { MatchResult result
-        (λ _. early_fault (before_source lines.old.left) ≡ None)
-        (IsFaultAt (early_fault (before_source lines.old.left))) }
-    ensures behind { IfOk result (λ next. stanzas_in lines.old.left ≡ stanzas_from next lines.new.left) }
+        (λ _. early_fault (before_head source_name lines.old.left) ≡ None)
+        (IsFaultAt (early_fault (before_head source_name lines.old.left))) }
+    ensures behind { IfOk result (λ next. stanzas_in source_name lines.old.left ≡ stanzas_from source_name next lines.new.left) }
     ensures next { IfOk result (λ next. IfSome next IsSourceLine) }
 {
     match lines.next() {
@@ -82,10 +83,10 @@ fn read_stanza<'a>(
 ) -> Result<(Stanza, Option<Line<'a>>), AccessErr>
     requires { IsSourceLine source }
     ensures stanza { MatchResult result
-        (λ read. IsStanzaOf (stanza_from source.entry lines.old.left) read.0)
-        (IsErrAt (stanza_fault (stanza_from source.entry lines.old.left))) }
-    ensures faultless { IfOk result (λ _. stanza_fault (stanza_from source.entry lines.old.left) ≡ None) }
-    ensures behind { IfOk result (λ read. stanzas_in lines.old.left ≡ stanzas_from read.1 lines.new.left) }
+        (λ read. IsStanzaOf (stanza_from source_name source.entry lines.old.left) read.0)
+        (IsErrAt (stanza_fault (stanza_from source_name source.entry lines.old.left))) }
+    ensures faultless { IfOk result (λ _. stanza_fault (stanza_from source_name source.entry lines.old.left) ≡ None) }
+    ensures behind { IfOk result (λ read. stanzas_in source_name lines.old.left ≡ stanzas_from source_name read.1 lines.new.left) }
     ensures next { IfOk result (λ read. IfSome read.1 IsSourceLine) }
 {
     let Some(sources) = read_sources(source.value) else {

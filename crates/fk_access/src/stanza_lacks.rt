@@ -2,16 +2,18 @@ ghost use Rattle.std.specs.Prelude.{◌≡◌, is_some};
 ghost use Rattle.std.specs.Option.{option_and_then, option_map};
 ghost use Rattle.fk_subst.specs.CommandFault.{is_template};
 ghost use Rattle.fk_values.specs.Given.{given_at, said_by};
+ghost use Rattle.fk_values.specs.KeyOf.{key_by};
 ghost use Rattle.fk_values.specs.Settings.{read_of};
 ghost use Rattle.fk_values.specs.Values.{number_within};
+ghost use Rattle.fk_access.specs.AccessTable.{access_rule};
 ghost use Rattle.fk_access.specs.AccessValues.{is_closing};
-ghost use Rattle.fk_access.specs.StanzaKeys.{has_value, key_by, lacks_first};
+ghost use Rattle.fk_access.specs.StanzaKeys.{has_value, lacks_first};
 
 use crate::AccessWhat;
-use crate::access_name::{AccessName, LONGEST_TIMER};
+use crate::access_name::AccessName;
 use fk_lines::Line;
 use fk_subst::is_template;
-use fk_values::{Given, is_base64_key, is_key, read_number};
+use fk_values::{Given, LONGEST_TIME, is_base64_key, is_key, read_number};
 
 /// What a stanza lacks first. It takes no memory.
 pub(crate) fn lacks_first(given: &Given<'_>) -> Option<AccessWhat>
@@ -40,7 +42,7 @@ pub(crate) fn lacks_first(given: &Given<'_>) -> Option<AccessWhat>
 
 /// Whether a line gives a key, in base64 under this name.
 fn has_key(line: Option<Line<'_>>, base64_name: AccessName) -> bool
-    ensures { result ≡ is_some (option_and_then (key_by base64_name) (option_map said_by line.entry)) }
+    ensures { result ≡ is_some (option_and_then (key_by (access_rule base64_name).name) (option_map said_by line.entry)) }
 {
     match line {
         Some(line) => {
@@ -73,10 +75,10 @@ fn has_closing(line: Option<Line<'_>>) -> bool
 }
 
 fn has_timer(line: Option<Line<'_>>) -> bool
-    ensures { result ≡ is_some (read_of (number_within 1 604800) (option_map said_by line.entry)) }
+    ensures { result ≡ is_some (read_of (number_within 1 LONGEST_TIME) (option_map said_by line.entry)) }
 {
     match line {
-        Some(line) => read_number(line.value, 1, LONGEST_TIMER).is_some(),
+        Some(line) => read_number(line.value, 1, LONGEST_TIME).is_some(),
         None => false,
     }
 }

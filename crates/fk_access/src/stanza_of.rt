@@ -4,16 +4,17 @@ ghost use Rattle.std.specs.Option.{option_and_then, option_map};
 ghost use Rattle.fk_base.specs.Characters.{is_line_byte};
 ghost use Rattle.fk_subst.specs.CommandFault.{is_template};
 ghost use Rattle.fk_values.specs.Given.{given_at, said_by};
+ghost use Rattle.fk_values.specs.KeyOf.{key_by};
 ghost use Rattle.fk_values.specs.Settings.{read_of};
 ghost use Rattle.fk_values.specs.Values.{flag_in, hash_in, number_within};
 ghost use Rattle.fk_access.specs.declared.access_name.AccessName.TheVariants.{Source};
-ghost use Rattle.fk_access.specs.AccessTable.{given_in};
+ghost use Rattle.fk_access.specs.AccessTable.{access_rule, given_in};
 ghost use Rattle.fk_access.specs.AccessValues.{pairs_in};
 ghost use Rattle.fk_access.specs.Private.{IsErrAt};
 ghost use Rattle.fk_access.specs.ReadsAccess.{GivesCommand, GivesSources, IsGiven};
-ghost use Rattle.fk_access.specs.StanzaKeys.{has_value, hmac_key, key_by, lacks_first, sealing_key};
+ghost use Rattle.fk_access.specs.StanzaKeys.{has_value, hmac_key, lacks_first, sealing_key};
 
-use crate::access_name::{AccessName, LONGEST_TIMER};
+use crate::access_name::AccessName;
 use crate::pair_list::read_pairs;
 use crate::stanza_lacks::lacks_first;
 use crate::{AccessErr, PairList, Sources, Stanza};
@@ -21,7 +22,7 @@ use fk_base::{Bytes, GREATEST_MOMENT, HashKind, Keys, NoMemory};
 use fk_lines::Line;
 use fk_subst::{CommandFault, Template, split};
 use fk_values::{
-    Given, KEY_LIMIT, read_flag, read_hash_name, read_number, take_base64_key, take_key,
+    Given, KEY_LIMIT, LONGEST_TIME, read_flag, read_hash_name, read_number, take_key_of,
 };
 use std::alloc::Global;
 
@@ -75,32 +76,17 @@ fn keys_of(alloc: Global, given: &Given<'_>) -> Result<Keys, NoMemory>
 
 /// The key that a line gives, in base64 under this name.
 fn key_of(alloc: Global, line: Option<Line<'_>>, base64_name: AccessName) -> Result<Bytes, NoMemory>
-    requires { is_some (option_and_then (key_by base64_name) (option_map said_by line)) ≡ true }
-    ensures key { IfOk result (λ key. option_and_then (key_by base64_name) (option_map said_by line.entry) ≡ Some key) }
+    requires { is_some (option_and_then (key_by (access_rule base64_name).name) (option_map said_by line)) ≡ true }
+    ensures key { IfOk result (λ key. option_and_then (key_by (access_rule base64_name).name) (option_map said_by line.entry) ≡ Some key) }
     ensures bounds { IfOk result (λ key. (1 ≤ length key) × (length key ≤ KEY_LIMIT)) }
 {
     let taken = match line {
-        Some(line) => take_either(alloc, line, base64_name)?,
+        Some(line) => take_key_of(alloc, line, base64_name.text())?,
         None => None,
     };
     match taken {
         Some(key) => Ok(key),
         None => unreachable!(),
-    }
-}
-
-fn take_either(
-    alloc: Global,
-    line: Line<'_>,
-    base64_name: AccessName,
-) -> Result<Option<Bytes>, NoMemory>
-    ensures key { IfOk result (λ key. key ≡ key_by base64_name (said_by line.entry)) }
-    ensures bounds { IfOk result (λ key. IfSome key (λ k. (1 ≤ length k) × (length k ≤ KEY_LIMIT))) }
-{
-    if base64_name.text() == line.name {
-        take_base64_key(alloc, line.value)
-    } else {
-        take_key(alloc, line.value)
     }
 }
 
@@ -168,11 +154,11 @@ fn command_of(alloc: Global, line: Option<Line<'_>>) -> Result<Template, NoMemor
 
 /// The seconds that a line gives.
 fn timer_of(line: Option<Line<'_>>) -> u32
-    requires { is_some (read_of (number_within 1 604800) (option_map said_by line)) ≡ true }
-    ensures { read_of (number_within 1 604800) (option_map said_by line.entry) ≡ Some result }
+    requires { is_some (read_of (number_within 1 LONGEST_TIME) (option_map said_by line)) ≡ true }
+    ensures { read_of (number_within 1 LONGEST_TIME) (option_map said_by line.entry) ≡ Some result }
 {
     let seconds = match line {
-        Some(line) => read_number(line.value, 1, LONGEST_TIMER),
+        Some(line) => read_number(line.value, 1, LONGEST_TIME),
         None => None,
     };
     match seconds {

@@ -4,8 +4,11 @@ use fk_lines::LineFault;
 use std::alloc::Global;
 use std::test::Fail;
 
+// A stanza of six lines, and its first five.
 static STANZA: &[u8] =
     b"SOURCE ANY\nKEY k\nHMAC_KEY h\nCMD_CYCLE_OPEN /o\nCMD_CYCLE_CLOSE /c\nCMD_CYCLE_TIMER 1\n";
+
+static NO_TIMER: &[u8] = b"SOURCE ANY\nKEY k\nHMAC_KEY h\nCMD_CYCLE_OPEN /o\nCMD_CYCLE_CLOSE /c\n";
 
 static EXAMPLE: &[u8] = b"# who may open the shell and the web port
 SOURCE               ANY;
@@ -26,12 +29,19 @@ fn read(alloc: Global, text: &[u8]) -> Result<Access, AccessErr> {
     read_access(alloc, text)
 }
 
-// What stands before the stanza, and behind it.
-fn around(alloc: Global, before: &[u8], behind: &[u8]) -> Result<Bytes, Fail> {
-    let mut text = Bytes::copy(alloc, before).map_err(|_| "memory")?;
-    text.append(STANZA).map_err(|_| "memory")?;
+fn joined(alloc: Global, front: &[u8], behind: &[u8]) -> Result<Bytes, Fail> {
+    let mut text = Bytes::copy(alloc, front).map_err(|_| "memory")?;
     text.append(behind).map_err(|_| "memory")?;
     Ok(text)
+}
+
+// The first fault of a text, with the number of its line. A text for which there is no memory has no answer here.
+fn fault_of(alloc: Global, text: &[u8]) -> Result<Option<(u32, AccessWhat)>, Fail> {
+    match read(alloc, text) {
+        Ok(_access) => Ok(None),
+        Err(AccessErr::Fault { line, what }) => Ok(Some((line, what))),
+        Err(AccessErr::NoMemory) => Err(Fail::from("memory")),
+    }
 }
 
 // The first fault of a text, with the number of its line, by the tables in docs/configuration.md.
@@ -98,41 +108,153 @@ fn the_first_fault_is_told(rt: HostRuntime) -> Result<(), Fail> {
     Ok(())
 }
 
-// A line behind a whole stanza of six lines.
+// What is wrong with lines behind a front, with the number of the line, or nothing.
 #[test]
-fn a_value_has_bounds(rt: HostRuntime) -> Result<(), Fail> {
-    let user65 = [b'u'; 65];
-    let rows: [(&[u8], bool); 16] = [
-        (b"ACCESS_EXPIRE_EPOCH 999999999999", true),
-        (b"ACCESS_EXPIRE_EPOCH 1000000000000", false),
-        (b"FW_ACCESS_TIMEOUT 18446744073709551615", true),
-        (b"FW_ACCESS_TIMEOUT 18446744073709551616", false),
-        (b"HMAC_DIGEST_TYPE sha512", true),
-        (b"HMAC_DIGEST_TYPE Sha512", false),
-        (b"REQUIRE_SOURCE_ADDRESS N", true),
-        (b"REQUIRE_SOURCE_ADDRESS n", false),
-        (b"OPEN_PORTS tcp/1,udp/65535", true),
-        (b"OPEN_PORTS tcp/65536", false),
-        (b"RESTRICT_PORTS tcp/22,\t udp/53;", true),
-        (b"RESTRICT_PORTS tcp/22;udp/53", false),
-        (b"REQUIRE_USERNAME bob # not a comment\r\n", true),
-        (b"REQUIRE_USERNAME:\tbob", true),
-        (b"KEY_BASE64 Ym9i", false),
-        (b"SOURCE ANY", false),
+fn lines_behind_others_are_right_or_wrong(rt: HostRuntime) -> Result<(), Fail> {
+    let rows: [(&[u8], &[u8], Option<(u32, AccessWhat)>); 43] = [
+        (STANZA, b"ACCESS_EXPIRE_EPOCH 0", None),
+        (STANZA, b"ACCESS_EXPIRE_EPOCH 999999999999", None),
+        (
+            STANZA,
+            b"ACCESS_EXPIRE_EPOCH 1000000000000",
+            Some((7, AccessWhat::BadValue)),
+        ),
+        (STANZA, b"FW_ACCESS_TIMEOUT 18446744073709551615", None),
+        (
+            STANZA,
+            b"FW_ACCESS_TIMEOUT 18446744073709551616",
+            Some((7, AccessWhat::BadValue)),
+        ),
+        (NO_TIMER, b"CMD_CYCLE_TIMER 604800", None),
+        (
+            NO_TIMER,
+            b"CMD_CYCLE_TIMER 604801",
+            Some((6, AccessWhat::BadValue)),
+        ),
+        (STANZA, b"HMAC_DIGEST_TYPE sha512", None),
+        (
+            STANZA,
+            b"HMAC_DIGEST_TYPE Sha512",
+            Some((7, AccessWhat::BadValue)),
+        ),
+        (STANZA, b"REQUIRE_SOURCE_ADDRESS N", None),
+        (
+            STANZA,
+            b"REQUIRE_SOURCE_ADDRESS n",
+            Some((7, AccessWhat::BadValue)),
+        ),
+        (STANZA, b"OPEN_PORTS tcp/1,udp/65535", None),
+        (
+            STANZA,
+            b"OPEN_PORTS tcp/65536",
+            Some((7, AccessWhat::BadValue)),
+        ),
+        (STANZA, b"RESTRICT_PORTS tcp/22,\t udp/53;", None),
+        (
+            STANZA,
+            b"RESTRICT_PORTS tcp/22;udp/53",
+            Some((7, AccessWhat::BadValue)),
+        ),
+        (STANZA, b"REQUIRE_USERNAME bob # not a comment\r\n", None),
+        (STANZA, b"REQUIRE_USERNAME:\tbob", None),
+        (
+            STANZA,
+            b"REQUIRE_USERNAME 1234567890123456789012345678901234567890123456789012345678901234",
+            None,
+        ),
+        (
+            STANZA,
+            b"REQUIRE_USERNAME 12345678901234567890123456789012345678901234567890123456789012345",
+            Some((7, AccessWhat::BadValue)),
+        ),
+        // A name that stood before.
+        (STANZA, b"KEY k", Some((7, AccessWhat::Twice))),
+        (STANZA, b"KEY_BASE64 Ym9i", Some((7, AccessWhat::Twice))),
+        (STANZA, b"HMAC_KEY k", Some((7, AccessWhat::Twice))),
+        (STANZA, b"CMD_CYCLE_OPEN /p", Some((7, AccessWhat::Twice))),
+        (STANZA, b"CMD_CYCLE_CLOSE /d", Some((7, AccessWhat::Twice))),
+        (STANZA, b"CMD_CYCLE_TIMER 2", Some((7, AccessWhat::Twice))),
+        (
+            STANZA,
+            b"OPEN_PORTS tcp/1\nOPEN_PORTS tcp/2",
+            Some((8, AccessWhat::Twice)),
+        ),
+        (
+            STANZA,
+            b"RESTRICT_PORTS tcp/1\nRESTRICT_PORTS tcp/2",
+            Some((8, AccessWhat::Twice)),
+        ),
+        (
+            STANZA,
+            b"HMAC_DIGEST_TYPE md5\nHMAC_DIGEST_TYPE md5",
+            Some((8, AccessWhat::Twice)),
+        ),
+        (
+            STANZA,
+            b"REQUIRE_USERNAME a\nREQUIRE_USERNAME b",
+            Some((8, AccessWhat::Twice)),
+        ),
+        (
+            STANZA,
+            b"REQUIRE_SOURCE_ADDRESS Y\nREQUIRE_SOURCE_ADDRESS Y",
+            Some((8, AccessWhat::Twice)),
+        ),
+        (
+            STANZA,
+            b"ACCESS_EXPIRE_EPOCH 1\nACCESS_EXPIRE_EPOCH 2",
+            Some((8, AccessWhat::Twice)),
+        ),
+        (
+            STANZA,
+            b"FW_ACCESS_TIMEOUT 1\nFW_ACCESS_TIMEOUT 2",
+            Some((8, AccessWhat::Twice)),
+        ),
+        // A second stanza, for which memory was asked before.
+        (STANZA, STANZA, None),
+        (STANZA, b"SOURCE x", Some((7, AccessWhat::BadValue))),
+        (STANZA, b"SOURCE ANY", Some((7, AccessWhat::NoKey))),
+        (
+            STANZA,
+            b"SOURCE ANY\nKEY k",
+            Some((7, AccessWhat::NoHmacKey)),
+        ),
+        (
+            STANZA,
+            b"SOURCE ANY\nNONE 1",
+            Some((8, AccessWhat::UnknownName)),
+        ),
+        (
+            STANZA,
+            b"SOURCE ANY\nKEY k\nKEY l",
+            Some((9, AccessWhat::Twice)),
+        ),
+        (
+            STANZA,
+            b"SOURCE ANY\nKEY",
+            Some((8, AccessWhat::Line(LineFault::NoValue))),
+        ),
+        (
+            STANZA,
+            b"\n#\nSOURCE ANY\nCMD_CYCLE_TIMER 0",
+            Some((10, AccessWhat::BadValue)),
+        ),
+        // The second of three stanzas lacks a key, and the third has none of its own.
+        (
+            STANZA,
+            b"SOURCE ANY\nHMAC_KEY h\nSOURCE x",
+            Some((7, AccessWhat::NoKey)),
+        ),
+        (NO_TIMER, b"", Some((1, AccessWhat::NoTimer))),
+        (NO_TIMER, STANZA, Some((1, AccessWhat::NoTimer))),
     ];
-    for (line, is_right) in rows {
-        let text = around(rt.alloc(), b"", line)?;
-        assert_eq!(rt; read(rt.alloc(), text.as_slice()).is_ok(), is_right);
+    for (front, behind, fault) in rows {
+        let text = joined(rt.alloc(), front, behind)?;
+        assert_eq!(rt; fault_of(rt.alloc(), text.as_slice())?, fault);
     }
-    let mut text = around(rt.alloc(), b"", b"REQUIRE_USERNAME ")?;
-    text.append(&user65[..64]).map_err(|_| "memory")?;
-    assert!(rt; read(rt.alloc(), text.as_slice()).is_ok());
-    text.append(b"u").map_err(|_| "memory")?;
-    assert!(rt; read(rt.alloc(), text.as_slice()).is_err());
     Ok(())
 }
 
-// The example file of docs/configuration.md: its keys are the bytes 00 to 1f and 00 to 3f.
+// Its keys are the bytes 00 to 1f and 00 to 3f.
 #[test]
 fn the_example_is_read(rt: HostRuntime) -> Result<(), Fail> {
     let access = read(rt.alloc(), EXAMPLE).map_err(|_| "refused")?;
@@ -163,39 +285,60 @@ fn repeated(alloc: Global, front: &[u8], item: &[u8], count: usize) -> Result<By
     Ok(text)
 }
 
+// What is told of so many, and of one more.
 #[test]
 fn lists_have_limits(rt: HostRuntime) -> Result<(), Fail> {
-    let rows: [(&[u8], &[u8], usize, u32, AccessWhat); 4] = [
-        (b"", STANZA, 256, 1537, AccessWhat::TooMany),
+    let lacks_key = Some((1, AccessWhat::NoKey));
+    let rows: [(
+        &[u8],
+        &[u8],
+        usize,
+        Option<(u32, AccessWhat)>,
+        (u32, AccessWhat),
+    ); 6] = [
+        (b"", STANZA, 256, None, (1537, AccessWhat::TooMany)),
         (
             b"SOURCE 10.0.0.7",
             b", 10.0.0.0/8",
             15,
-            1,
-            AccessWhat::BadValue,
+            lacks_key,
+            (1, AccessWhat::BadValue),
         ),
         (
             b"SOURCE ANY\nOPEN_PORTS tcp/22",
             b",tcp/22",
             63,
-            2,
-            AccessWhat::BadValue,
+            lacks_key,
+            (2, AccessWhat::BadValue),
+        ),
+        (
+            b"SOURCE ANY\nRESTRICT_PORTS tcp/22",
+            b",tcp/22",
+            63,
+            lacks_key,
+            (2, AccessWhat::BadValue),
         ),
         (
             b"SOURCE ANY\nCMD_CYCLE_OPEN /o",
             b" $IP",
             31,
-            2,
-            AccessWhat::BadValue,
+            lacks_key,
+            (2, AccessWhat::BadValue),
+        ),
+        (
+            b"SOURCE ANY\nCMD_CYCLE_CLOSE /c",
+            b" $IP",
+            31,
+            lacks_key,
+            (2, AccessWhat::BadValue),
         ),
     ];
-    for (front, item, most, line, what) in rows {
-        let fault = Some(AccessErr::Fault { line, what });
+    for (front, item, most, fault, one_more) in rows {
         assert!(rt; most < 1000);
         let fits = repeated(rt.alloc(), front, item, most)?;
-        assert!(rt; read(rt.alloc(), fits.as_slice()).err() != fault);
+        assert_eq!(rt; fault_of(rt.alloc(), fits.as_slice())?, fault);
         let more = repeated(rt.alloc(), front, item, most + 1)?;
-        assert_eq!(rt; read(rt.alloc(), more.as_slice()).err(), fault);
+        assert_eq!(rt; fault_of(rt.alloc(), more.as_slice())?, Some(one_more));
     }
     assert_eq!(rt; read(rt.alloc(), b"# none\n").map(|a| a.count()), Ok(0));
     Ok(())

@@ -64,17 +64,49 @@ taken (Some g) refusal grant is = cc
 taken None refusal grant is = cc
 
 by_shape : (shape : Option PacketShape) (access : List Stanza) (arrival : Arrival) (grant : Grant) → admitted_by shape access arrival ≡ Ok grant →
-    first_grant 1 access arrival ≡ Some grant
-by_shape None access arrival grant is = taken (first_grant 1 access arrival) (why access arrival) grant is
+    (shape ≡ None) × (first_grant 1 access arrival ≡ Some grant)
+by_shape None access arrival grant is = (refl, taken (first_grant 1 access arrival) (why access arrival) grant is)
 by_shape (Some fault) access arrival grant is = cc
 
-pub first_of_all : (access : List Stanza) (arrival : Arrival) (grant : Grant) → admitted access arrival ≡ Ok grant → IsFirstGrant access arrival grant
+pub first_of_all : (access : List Stanza) (arrival : Arrival) (grant : Grant) → admitted access arrival ≡ Ok grant →
+    (shape_fault arrival.datagram ≡ None) × IsFirstGrant access arrival grant
 first_of_all access arrival grant is =
-    let found = first_from access 1 arrival grant (by_shape (shape_fault arrival.datagram) access arrival grant is) in
-    record {
-      at = found.at;
-      stanza = found.stanza;
-      here = found.here;
-      grants = numbered (1 + found.at) (found.at + 1) found.stanza arrival (Some grant) (omega arith) found.grants;
-      first = λ earlier other lt at. numbered (1 + earlier) (earlier + 1) other arrival None (omega arith) (found.first earlier other lt at);
-    }
+    let shaped = by_shape (shape_fault arrival.datagram) access arrival grant is in
+    let found = first_from access 1 arrival grant shaped.1 in (
+      shaped.0,
+      record {
+        at = found.at;
+        stanza = found.stanza;
+        here = found.here;
+        grants = numbered (1 + found.at) (found.at + 1) found.stanza arrival (Some grant) (omega arith) found.grants;
+        first = λ earlier other lt at. numbered (1 + earlier) (earlier + 1) other arrival None (omega arith) (found.first earlier other lt at);
+      },
+    )
+
+-- a grant that no stanza before its own gives is the first
+
+from_first : (at : ℕ) (stanzas : List Stanza) (number : ℕ) (arrival : Arrival) (grant : Grant) (stanza : Stanza) → slice_get stanzas at ≡ Some stanza →
+    granted_by (number + at) stanza arrival ≡ Some grant →
+    ((earlier : ℕ) (other : Stanza) → earlier < at → slice_get stanzas earlier ≡ Some other → granted_by (number + earlier) other arrival ≡ None) →
+    first_grant number stanzas arrival ≡ Some grant
+from_first at [] number arrival grant stanza here grants first = cc
+from_first zero (this ∷ stanzas) number arrival grant stanza here grants first =
+    let same : stanza ≡ this = cc in
+    ap (λ (g : Option Grant). option_or g (first_grant (number + 1) stanzas arrival))
+    (numbered (number + 0) number this arrival (Some grant) (omega arith)
+    (subst (λ (s : Stanza). granted_by (number + 0) s arrival ≡ Some grant) same grants))
+from_first (suc at) (this ∷ stanzas) number arrival grant stanza here grants first =
+    ap (λ (g : Option Grant). option_or g (first_grant (number + 1) stanzas arrival))
+    (numbered (number + 0) number this arrival None (omega arith) (first 0 this (omega arith) refl))
+    ∙ from_first at stanzas (number + 1) arrival grant stanza here
+    (numbered (number + suc at) (number + 1 + at) stanza arrival (Some grant) (omega arith) grants)
+    (λ earlier other lt is. numbered (number + suc earlier) (number + 1 + earlier) other arrival None (omega arith) (first (suc earlier) other (omega arith) is))
+
+pub is_first_of_all : (access : List Stanza) (arrival : Arrival) (grant : Grant) →
+    (shape_fault arrival.datagram ≡ None) × IsFirstGrant access arrival grant → admitted access arrival ≡ Ok grant
+is_first_of_all access arrival grant is =
+    let found = is.1 in
+    let first = from_first found.at access 1 arrival grant found.stanza found.here
+    (numbered (found.at + 1) (1 + found.at) found.stanza arrival (Some grant) (omega arith) found.grants)
+    (λ earlier other lt at. numbered (earlier + 1) (1 + earlier) other arrival None (omega arith) (found.first earlier other lt at)) in
+    ap (λ (f : Option PacketShape). admitted_by f access arrival) is.0 ∙ ap (λ (g : Option Grant). ok_or g (why access arrival)) first

@@ -1,4 +1,4 @@
-ghost use Rattle.std.specs.Prelude.{◌≡◌, ◌+◌, ◌≤◌, IsSome, MatchResult, None, Ok};
+ghost use Rattle.std.specs.Prelude.{◌≡◌, ◌+◌, ◌≤◌, IfOk, IsSome, MatchResult, None, Ok, length};
 ghost use Rattle.fk_packet.specs.Shape.{shape_fault};
 ghost use Rattle.fk_admit.specs.Admit.{admitted, blocks_in_all, shape_refusal};
 ghost use Rattle.fk_admit.specs.AdmitFault.{IsAdmitFault};
@@ -29,6 +29,7 @@ pub fn admit<L: Ledger>(
     ensures verdict { MatchResult result
         (λ grant. admitted access.now (arrival age src datagram.now moment) ≡ Ok grant)
         (IsAdmitFault access.now (arrival age src datagram.now moment)) }
+    ensures stanza { IfOk result (λ grant. (1 ≤ grant.stanza) × (grant.stanza ≤ length access.now)) }
     ensures shape_steps { IsSome (shape_fault datagram.now) → steps.new ≡ steps.old }
     ensures least_steps { steps.old ≤ steps.new }
     ensures most_steps { steps.new ≤ steps.old + blocks_in_all access.now (arrival age src datagram.now moment) }
@@ -56,6 +57,7 @@ fn try_stanzas<L: Ledger>(
     ensures verdict { MatchResult result
         (λ grant. admitted access.now (arrival_of arriving.entry) ≡ Ok grant)
         (IsAdmitFault access.now (arrival_of arriving.entry)) }
+    ensures stanza { IfOk result (λ grant. (1 ≤ grant.stanza) × (grant.stanza ≤ length access.now)) }
     ensures least_steps { steps.old ≤ steps.new }
     ensures most_steps { steps.new ≤ steps.old + blocks_in_all access.now (arrival_of arriving.entry) }
 {

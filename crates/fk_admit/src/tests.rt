@@ -28,6 +28,18 @@ fn two() -> &'static [u8] {
     b"SOURCE 10.0.0.0/8\nOPEN_PORTS tcp/22\nKEY bob-key\nHMAC_KEY other\nCMD_CYCLE_OPEN /bin/o\nCMD_CYCLE_CLOSE /bin/c\nCMD_CYCLE_TIMER 30\nSOURCE 10.0.0.7\nKEY bob-key\nHMAC_KEY bob-mac\nCMD_CYCLE_OPEN /bin/o2\nCMD_CYCLE_CLOSE /bin/c\nCMD_CYCLE_TIMER 5\n"
 }
 
+// Two stanzas that grant the same packets.
+fn both_grant() -> &'static [u8] {
+    b"SOURCE 10.0.0.0/8\nKEY bob-key\nHMAC_KEY bob-mac\nCMD_CYCLE_OPEN /bin/o\nCMD_CYCLE_CLOSE /bin/c\nCMD_CYCLE_TIMER 30\nSOURCE ANY\nKEY bob-key\nHMAC_KEY bob-mac\nCMD_CYCLE_OPEN /bin/o2\nCMD_CYCLE_CLOSE /bin/c\nCMD_CYCLE_TIMER 5\n"
+}
+
+// A stanza that permits both pairs of a packet and bars one of them.
+fn permits_and_bars() -> &'static [u8] {
+    b"SOURCE ANY\nOPEN_PORTS tcp/22,udp/53\nRESTRICT_PORTS udp/53\nKEY bob-key\nHMAC_KEY bob-mac\nCMD_CYCLE_OPEN /bin/o\nCMD_CYCLE_CLOSE /bin/c\nCMD_CYCLE_TIMER 30\n"
+}
+
+static LETTERS: [u8; 1501] = [b'A'; 1501];
+
 // The datagrams were made by Python and OpenSSL: user bob, stamp 1700000000, 10.0.0.7 with tcp/22, keys bob-key and bob-mac
 // with SHA-256, where the name says nothing else.
 fn packet() -> &'static [u8] {
@@ -132,7 +144,7 @@ fn each_row<L: Ledger>(
 #[test]
 fn age_and_shape_are_tested(rt: HostRuntime) -> Result<(), Fail> {
     let granted = Ok((1, NEAR.0, 30));
-    let rows: [Row<'_>; 9] = [
+    let rows: [Row<'_>; 11] = [
         (NEAR, packet(), STAMP, granted),
         (NEAR, packet(), STAMP + 120, granted),
         (NEAR, packet(), STAMP + 121, Err(Some(Refusal::Age))),
@@ -140,6 +152,13 @@ fn age_and_shape_are_tested(rt: HostRuntime) -> Result<(), Fail> {
         (NEAR, packet(), STAMP - 121, Err(Some(Refusal::Age))),
         (NEAR, front(packet(), 139), STAMP, Err(Some(Refusal::Shape))),
         (NEAR, front(packet(), 140), STAMP, Err(Some(Refusal::Mac))),
+        (NEAR, front(&LETTERS, 1500), STAMP, Err(Some(Refusal::Mac))),
+        (
+            NEAR,
+            front(&LETTERS, 1501),
+            STAMP,
+            Err(Some(Refusal::Shape)),
+        ),
         (NEAR, loose_bits(), STAMP, Err(Some(Refusal::Mac))),
         (NEAR, with_prefix(), STAMP, Err(Some(Refusal::Prefix))),
     ];
@@ -180,4 +199,23 @@ fn the_first_stanza_that_grants_is_taken(rt: HostRuntime) -> Result<(), Fail> {
         (NEAR, packet(), STAMP + 121, Err(Some(Refusal::Mac))),
     ];
     each_row::<Brand>(&rt, rt.alloc(), two(), &rows, Blank::new(1))
+}
+
+#[test]
+fn the_first_of_two_grants_is_taken(rt: HostRuntime) -> Result<(), Fail> {
+    let rows: [Row<'_>; 3] = [
+        (NEAR, packet(), STAMP, Ok((1, NEAR.0, 30))),
+        (NEAR, two_pairs(), STAMP, Ok((1, NEAR.0, 30))),
+        (FAR, packet(), STAMP, Ok((2, NEAR.0, 5))),
+    ];
+    each_row::<Brand>(&rt, rt.alloc(), both_grant(), &rows, Blank::new(1))
+}
+
+#[test]
+fn a_barred_pair_is_not_permitted(rt: HostRuntime) -> Result<(), Fail> {
+    let rows: [Row<'_>; 2] = [
+        (NEAR, packet(), STAMP, Ok((1, NEAR.0, 30))),
+        (NEAR, two_pairs(), STAMP, Err(Some(Refusal::Port))),
+    ];
+    each_row::<Brand>(&rt, rt.alloc(), permits_and_bars(), &rows, Blank::new(1))
 }

@@ -16,9 +16,8 @@ use Rattle.fk_conf.specs.declared.conf_err.ConfWhat.{ConfWhat}
 use Rattle.fk_conf.specs.declared.conf_err.ConfErr.{ConfErr}
 use Rattle.fk_conf.specs.declared.conf_err.ConfErr.TheVariants.{Fault, NoMemory}
 use Rattle.fk_conf.specs.declared.rc_stanza.RcStanza.{RcStanza}
-use Rattle.fk_conf.specs.RcFault.{HasWholeStanza, IsRcErr, early_fault, lines_fault, name_fault, rc_fault, rc_stanzas, stanza_fault, stanzas_fault}
-use Rattle.fk_conf.specs.RcNames.{names_of}
-use Rattle.fk_conf.specs.RcPrivate.{IsBodyErr}
+use Rattle.fk_conf.specs.RcFault.{HasRightFront, IsRcErr, early_fault, lines_fault, name_fault, rc_fault, rc_stanzas, stanza_fault, stanzas_fault}
+use Rattle.fk_conf.specs.RcPrivate.{IsBodyErr, names_of}
 use Rattle.fk_conf.specs.RcTable.{head_name, rc_rules}
 use Rattle.fk_conf.specs.ReadsRc.{IsRcStanzaOf, SaysRc}
 
@@ -27,12 +26,16 @@ pub record IsRcReading (text : List ℕ) (left : List (List NumberedLine)) (file
   pub done : List (List NumberedLine)
   pub split : rc_stanzas text ≡ done ++ left
   pub each : AllZip IsRcStanzaOf done file
-  pub fault_is : stanzas_fault [] (rc_stanzas text) ≡ stanzas_fault (names_of file) left
+  pub fault_is : (others : List (List NumberedLine)) → stanzas_fault [] (done ++ others) ≡ stanzas_fault (names_of file) others
 
 pub rc_begins : (text : List ℕ) (left : List (List NumberedLine)) (file : List RcStanza) → rc_stanzas text ≡ left → file ≡ [] → IsRcReading text left file
 rc_begins text left file is none =
     subst (λ (f : List RcStanza). IsRcReading text left f) (sym none)
-    (record { done = []; split = is; each = tt; fault_is = ap (stanzas_fault []) is })
+    (record { done = []; split = is; each = tt; fault_is = λ others. refl })
+
+fault_left : (text : List ℕ) (left : List (List NumberedLine)) (file : List RcStanza) → IsRcReading text left file →
+    stanzas_fault [] (rc_stanzas text) ≡ stanzas_fault (names_of file) left
+fault_left text left file before = ap (stanzas_fault []) before.split ∙ before.fault_is left
 
 -- the head of a stanza, as its line says it
 abbrev pub head_of : Line → NumberedLine
@@ -76,16 +79,25 @@ rc_goes_on text head lines rest left file next read before named faultless rest_
       done = before.done ++ stanza ∷ [];
       split = before.split ∙ ap (λ (r : List (List NumberedLine)). before.done ++ stanza ∷ r) rest_is ∙ sym (append_assoc before.done (stanza ∷ []) left);
       each = subst (λ (s : List RcStanza). AllZip IsRcStanzaOf (before.done ++ stanza ∷ []) s) (sym next_is) (AllZip-push before.done file stanza read before.each says);
-      fault_is = before.fault_is
-          ∙ ap (λ (f : Option (ℕ × ConfWhat)). option_or f (stanzas_fault (names_of file ++ head.value.now ∷ []) rest)) none
-          ∙ ap (λ (n : List (List ℕ)). stanzas_fault n rest) names
-          ∙ ap (stanzas_fault (names_of next)) rest_is;
+      fault_is = λ others.
+          ap (stanzas_fault []) (append_assoc before.done (stanza ∷ []) others) ∙ before.fault_is (stanza ∷ others)
+          ∙ ap (λ (f : Option (ℕ × ConfWhat)). option_or f (stanzas_fault (names_of file ++ head.value.now ∷ []) others)) none
+          ∙ ap (λ (n : List (List ℕ)). stanzas_fault n others) names;
     }
 
-pub rc_has_stanza : (text : List ℕ) (head : Line) (lines : List NumberedLine) (rest : List (List NumberedLine)) (file : List RcStanza) →
-    IsRcReading text ((head_of head ∷ lines) ∷ rest) file → first_fault rc_rules [] lines ≡ None → HasWholeStanza text
-rc_has_stanza text head lines rest file before faultless =
-    record { before = before.done; head = head_of head; lines = lines; behind = rest; split = before.split; faultless = faultless }
+pub rc_has_front : (text : List ℕ) (head : Line) (lines : List NumberedLine) (rest : List (List NumberedLine)) (file : List RcStanza) →
+    early_fault (before_head head_name (lines_of text)) ≡ None → IsRcReading text ((head_of head ∷ lines) ∷ rest) file →
+    name_fault (names_of file) head.value.now ≡ None → first_fault rc_rules [] lines ≡ None → HasRightFront text
+rc_has_front text head lines rest file early before named faultless =
+    record {
+      front = before.done;
+      stanza = head_of head ∷ lines;
+      behind = rest;
+      split = before.split;
+      early = early;
+      faultless = before.fault_is ((head_of head ∷ lines) ∷ [])
+          ∙ ap (λ (f : Option (ℕ × ConfWhat)). option_or f None) (right_name (names_of file) head lines named ∙ no_lines_fault lines faultless);
+    }
 
 late_fault : (text : List ℕ) (found : Option (ℕ × ConfWhat)) → early_fault (before_head head_name (lines_of text)) ≡ None →
     stanzas_fault [] (rc_stanzas text) ≡ found → rc_fault text ≡ found
@@ -96,7 +108,7 @@ pub rc_name_is_wrong : (text : List ℕ) (head : Line) (lines : List NumberedLin
     name_fault (names_of file) head.value.now ≡ Some what → rc_fault text ≡ Some (head.number, what)
 rc_name_is_wrong text head lines rest file what early before wrong =
     late_fault text (Some (head.number, what)) early (
-    before.fault_is
+    fault_left text ((head_of head ∷ lines) ∷ rest) file before
     ∙ ap (λ (f : Option ConfWhat). option_or (option_or (option_map (λ (w : ConfWhat). (head.number, w)) f) (lines_fault lines))
     (stanzas_fault (names_of file ++ head.value.now ∷ []) rest)) wrong)
 
@@ -105,13 +117,13 @@ pub rc_is_wrong : (text : List ℕ) (head : Line) (lines : List NumberedLine) (r
     name_fault (names_of file) head.value.now ≡ None → IsBodyErr lines err → IsRcErr text err
 rc_is_wrong text head lines rest file (Fault line what) early before named is =
     late_fault text (Some (line, what)) early (
-    before.fault_is
+    fault_left text ((head_of head ∷ lines) ∷ rest) file before
     ∙ ap (λ (f : Option (ℕ × ConfWhat)). option_or f (stanzas_fault (names_of file ++ head.value.now ∷ []) rest))
     (right_name (names_of file) head lines named ∙ is))
-rc_is_wrong text head lines rest file NoMemory early before named is = rc_has_stanza text head lines rest file before is
+rc_is_wrong text head lines rest file NoMemory early before named is = rc_has_front text head lines rest file early before named is
 
 pub rc_ends : (text : List ℕ) (file : List RcStanza) → early_fault (before_head head_name (lines_of text)) ≡ None → IsRcReading text [] file →
     (rc_fault text ≡ None) × AllZip IsRcStanzaOf (rc_stanzas text) file
 rc_ends text file early before =
     let all = before.split ∙ append-nil before.done in
-    (late_fault text None early before.fault_is, subst (λ (s : List (List NumberedLine)). AllZip IsRcStanzaOf s file) (sym all) before.each)
+    (late_fault text None early (fault_left text [] file before), subst (λ (s : List (List NumberedLine)). AllZip IsRcStanzaOf s file) (sym all) before.each)

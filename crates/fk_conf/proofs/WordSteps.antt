@@ -1,9 +1,10 @@
 -- What is known while the words of a command line are read one by one.
-use Rattle.std.proofs.Common.{◌≡◌, ℕ, zero, suc, ◌+◌, ◌<◌, ◌≤◌, Bool, true, false, List, [], ◌∷◌, ◌++◌, length, take, drop, Option, Some, None, refl, sym, ◌∙◌, ap, arith, if◌then◌else◌, inl, inr}
-use Rattle.std.specs.Prelude.{◌||◌, not}
+use Rattle.std.proofs.Common.{◌≡◌, ◌≢◌, ℕ, zero, suc, ◌+◌, ◌-◌, ◌<◌, ◌≤◌, Bool, true, false, List, [], ◌∷◌, ◌++◌, length, take, drop, Option, Some, None, refl, sym, ◌∙◌, ap, arith, if◌then◌else◌, inl, inr, add-one}
+use Rattle.std.specs.Prelude.{◌||◌, find, not, unwrap_or}
 use Rattle.std.specs.List.{list_any, slice_get}
 use Rattle.std.specs.Option.{option_and_then, option_map_or, option_or}
 use Rattle.std.specs.Str.{bytes_eq}
+use Rattle.std.proofs.Math.Nat.{eq-or-lt_of_le}
 use Rattle.std.proofs.Math.Seq.{drop-cons, drop-length}
 use Rattle.std.proofs.lemmas.Bool.{cases_Bool}
 use Rattle.std.proofs.lemmas.List.{length-take-le, take_more}
@@ -14,8 +15,11 @@ use Rattle.fk_conf.specs.declared.command_option.CommandOption.{CommandOption}
 use Rattle.fk_conf.specs.declared.word_fault.WordFault.{WordFault}
 use Rattle.fk_conf.specs.declared.word_fault.WordFault.TheVariants.{Unknown, Twice, NoValue, BadValue}
 use Rattle.fk_conf.specs.CommandOptions.{OptionRule, option_rule}
-use Rattle.fk_conf.specs.WordFaults.{awaits_value, begins_option, known_fault, option_fault, option_of, rule_fault, value_fault, words_fault}
-use Rattle.fk_conf.specs.WordPlaces.{word_behind, words_behind}
+use Rattle.fk_conf.specs.declared.operand.Operand.{Operand}
+use Rattle.fk_conf.specs.declared.option_set.OptionSet.{OptionSet}
+use Rattle.fk_conf.specs.Operands.{command_read, command_word, fko_commands, fko_read, is_operand, operand_fault, operand_fault_at}
+use Rattle.fk_conf.specs.WordFaults.{awaits_value, begins_option, fault_at, first_fault_at, is_value_at, known_fault, option_fault, option_of, value_fault}
+use Rattle.fk_conf.specs.WordPlaces.{word_at, word_behind, words_behind}
 
 -- places
 
@@ -148,42 +152,109 @@ place_is words at word is =
     let few : at ≤ length words = omega arith in
     ap (λ (n : ℕ). n + 1) (length-take-le at words few)
 
-pub option_is_known : (tool : Tool) (words : List (List ℕ)) (at : ℕ) (word : List ℕ) (behind : List (List ℕ)) (option : CommandOption) →
+pub word_is : (words : List (List ℕ)) (at : ℕ) (word : List ℕ) → slice_get words at ≡ Some word → word_at words at ≡ word
+word_is words at word is = ap (λ (w : Option (List ℕ)). unwrap_or w []) is
+
+-- the word at a place
+
+pub value_is_tested : (tool : Tool) (words : List (List ℕ)) (at : ℕ) → is_value_at tool words at ≡ true → None ≡ fault_at tool words at
+value_is_tested tool words at is =
+    sym (ap (λ (b : Bool). if b then None else option_fault (take at words) (drop (at + 1) words) (option_of tool (word_at words at))) is)
+
+pub option_is_tested : (tool : Tool) (words : List (List ℕ)) (at : ℕ) (word : List ℕ) (found : Option CommandOption) → is_value_at tool words at ≡ false →
+    slice_get words at ≡ Some word → option_of tool word ≡ found →
+    fault_at tool words at ≡ option_fault (take at words) (drop (at + 1) words) found
+option_is_tested tool words at word found other is known =
+    ap (λ (b : Bool). if b then None else option_fault (take at words) (drop (at + 1) words) (option_of tool (word_at words at))) other
+    ∙ ap (λ (w : List ℕ). option_fault (take at words) (drop (at + 1) words) (option_of tool w)) (word_is words at word is)
+    ∙ ap (option_fault (take at words) (drop (at + 1) words)) known
+
+pub option_is_known : (tool : Tool) (words : List (List ℕ)) (at : ℕ) (word : List ℕ) (option : CommandOption) → is_value_at tool words at ≡ false →
     slice_get words at ≡ Some word → Some option ≡ option_of tool word →
-    option_fault tool (take at words) word behind ≡ known_fault (option_rule option) (take at words) (at + 1) behind
-option_is_known tool words at word behind option is known =
-    ap (rule_fault (take at words) (length (take at words) + 1) behind) (sym known)
-    ∙ ap (λ (place : ℕ). known_fault (option_rule option) (take at words) place behind) (place_is words at word is)
+    known_fault (option_rule option) (take at words) (at + 1) (drop (at + 1) words) ≡ fault_at tool words at
+option_is_known tool words at word option other is known =
+    sym (option_is_tested tool words at word (Some option) other is (sym known)
+    ∙ ap (λ (place : ℕ). known_fault (option_rule option) (take at words) place (drop (at + 1) words)) (place_is words at word is))
 
-pub option_is_unknown : (tool : Tool) (words : List (List ℕ)) (at : ℕ) (word : List ℕ) (behind : List (List ℕ)) →
-    slice_get words at ≡ Some word → None ≡ option_of tool word → option_fault tool (take at words) word behind ≡ Some (Unknown (at + 1))
-option_is_unknown tool words at word behind is unknown =
-    ap (rule_fault (take at words) (length (take at words) + 1) behind) (sym unknown)
-    ∙ ap (λ (place : ℕ). Some (Unknown place)) (place_is words at word is)
+pub option_is_unknown : (tool : Tool) (words : List (List ℕ)) (at : ℕ) (word : List ℕ) → is_value_at tool words at ≡ false →
+    slice_get words at ≡ Some word → None ≡ option_of tool word → Some (Unknown (at + 1)) ≡ fault_at tool words at
+option_is_unknown tool words at word other is unknown =
+    sym (option_is_tested tool words at word None other is (sym unknown) ∙ ap (λ (place : ℕ). Some (Unknown place)) (place_is words at word is))
 
-pub awaits_by : (tool : Tool) (word : List ℕ) (option : CommandOption) → Some option ≡ option_of tool word →
-    (option_rule option).has_value ≡ awaits_value tool word
-awaits_by tool word option known = ap (λ (o : Option CommandOption). option_map_or (λ p. (option_rule p).has_value) o false) known
+pub awaits_by : (tool : Tool) (word : List ℕ) (found : Option CommandOption) → found ≡ option_of tool word →
+    option_map_or (λ option. (option_rule option).has_value) found false ≡ awaits_value tool word
+awaits_by tool word found is = ap (λ (o : Option CommandOption). option_map_or (λ option. (option_rule option).has_value) o false) is
 
--- the walk
+pub first_is_no_value : (tool : Tool) (words : List (List ℕ)) (at : ℕ) → at ≡ 0 → false ≡ is_value_at tool words at
+first_is_no_value tool words at is = sym (ap (is_value_at tool words) is)
 
-pub walk_passes : (tool : Tool) (words : List (List ℕ)) (at : ℕ) (word : List ℕ) → slice_get words at ≡ Some word →
-    words_fault tool (take at words) true (drop at words) ≡ words_fault tool (take (at + 1) words) false (drop (at + 1) words)
-walk_passes tool words at word is =
-    ap (words_fault tool (take at words) true) (drop_at words at word is)
-    ∙ ap (λ (before : List (List ℕ)). words_fault tool before false (drop (at + 1) words)) (sym (take_at words at word is))
+pub value_behind : (tool : Tool) (words : List (List ℕ)) (at : ℕ) (word : List ℕ) → at ≢ 0 → slice_get words (at - 1) ≡ Some word →
+    awaits_value tool word ≡ is_value_at tool words at
+value_behind tool words zero word some is = absurd (some refl)
+value_behind tool words (suc before) word some is =
+    let same : suc before - 1 ≡ before = omega arith in
+    sym (ap (awaits_value tool) (word_is words before word (ap (slice_get words) (sym same) ∙ is)))
 
-pub walk_fails : (tool : Tool) (words : List (List ℕ)) (at : ℕ) (word : List ℕ) (fault : WordFault) → slice_get words at ≡ Some word →
-    option_fault tool (take at words) word (drop (at + 1) words) ≡ Some fault → words_fault tool (take at words) false (drop at words) ≡ Some fault
-walk_fails tool words at word fault is found =
-    ap (words_fault tool (take at words) false) (drop_at words at word is)
-    ∙ ap (λ (f : Option WordFault). option_or f (words_fault tool (take at words ++ word ∷ []) (awaits_value tool word) (drop (at + 1) words))) found
+-- the first fault of so many places
 
-pub walk_tests : (tool : Tool) (words : List (List ℕ)) (at : ℕ) (word : List ℕ) (next : Bool) → slice_get words at ≡ Some word →
-    option_fault tool (take at words) word (drop (at + 1) words) ≡ None → next ≡ awaits_value tool word →
-    words_fault tool (take at words) false (drop at words) ≡ words_fault tool (take (at + 1) words) next (drop (at + 1) words)
-walk_tests tool words at word next is none next_is =
-    ap (words_fault tool (take at words) false) (drop_at words at word is)
-    ∙ ap (λ (f : Option WordFault). option_or f (words_fault tool (take at words ++ word ∷ []) (awaits_value tool word) (drop (at + 1) words))) none
-    ∙ ap (λ (before : List (List ℕ)). words_fault tool before (awaits_value tool word) (drop (at + 1) words)) (sym (take_at words at word is))
-    ∙ ap (λ (b : Bool). words_fault tool (take (at + 1) words) b (drop (at + 1) words)) (sym next_is)
+pub first_is : (fault : ℕ → Option WordFault) (at count : ℕ) (found : WordFault) → first_fault_at fault at ≡ None → fault at ≡ Some found → at < count →
+    first_fault_at fault count ≡ Some found
+first_is fault at zero found none here lt = absurd (omega arith)
+first_is fault at (suc count) found none here lt =
+    let within : at ≤ count = omega arith in
+    elim (eq-or-lt_of_le within) [
+      | inl same ↦
+          ap (λ (n : ℕ). option_or (first_fault_at fault n) (fault n)) (sym same)
+          ∙ ap (λ (f : Option WordFault). option_or f (fault at)) none ∙ here
+      | inr less ↦ ap (λ (f : Option WordFault). option_or f (fault count)) (first_is fault at count found none here less)
+    ]
+
+pub none_goes_on : (fault : ℕ → Option WordFault) (at : ℕ) → first_fault_at fault at ≡ None → fault at ≡ None → first_fault_at fault (at + 1) ≡ None
+none_goes_on fault at none here =
+    ap (first_fault_at fault) (add-one at) ∙ ap (λ (f : Option WordFault). option_or f (fault at)) none ∙ here
+
+-- the words behind a command
+
+pub drop_one : (words : List (List ℕ)) → 1 ≤ length words → length words ≡ length (drop 1 words) + 1
+drop_one [] some = absurd (omega arith)
+drop_one (first ∷ others) some = omega arith
+
+pub word_missing : (words : List (List ℕ)) (at : ℕ) → length words ≤ at → word_at words at ≡ []
+word_missing [] zero all = refl
+word_missing [] (suc at) all = refl
+word_missing (word ∷ words) zero all = absurd (omega arith)
+word_missing (word ∷ words) (suc at) all = word_missing words at (omega arith)
+
+pub command_is : (words : List (List ℕ)) (first : List ℕ) (found : Option OptionSet) → slice_get words 0 ≡ Some first →
+    find (λ command. bytes_eq (command_word command) first) fko_commands ≡ found → fko_read words ≡ command_read found (drop 1 words)
+command_is [] first found is named = cc
+command_is (word ∷ words) first found is named =
+    let same : word ≡ first = cc in
+    ap (λ (w : List ℕ). command_read (find (λ command. bytes_eq (command_word command) w) fko_commands) words) same
+    ∙ ap (λ (c : Option OptionSet). command_read c words) named
+
+pub word_behind_first : (words : List (List ℕ)) (at : ℕ) (word : List ℕ) → slice_get words (at + 1) ≡ Some word → word_at (drop 1 words) at ≡ word
+word_behind_first words at word is = by words (ap (slice_get words) (sym (add-one at)) ∙ is)
+  where
+    by : (ws : List (List ℕ)) → slice_get ws (suc at) ≡ Some word → word_at (drop 1 ws) at ≡ word
+    by [] found = cc
+    by (first ∷ others) found = word_is others at word found
+
+pub no_operand : (operands : List Operand) (words : List (List ℕ)) (at : ℕ) → slice_get operands at ≡ None →
+    Some (Unknown (at + 2)) ≡ operand_fault_at operands words at
+no_operand operands words at is = sym (ap (operand_fault (at + 2) (word_at words at)) is)
+
+pub operand_is : (operands : List Operand) (words : List (List ℕ)) (at : ℕ) (operand : Operand) (word : List ℕ) → slice_get operands at ≡ Some operand →
+    word_at words at ≡ word → operand_fault_at operands words at ≡ operand_fault (at + 2) word (Some operand)
+operand_is operands words at operand word is spelled =
+    ap (operand_fault (at + 2) (word_at words at)) is ∙ ap (λ (w : List ℕ). operand_fault (at + 2) w (Some operand)) spelled
+
+pub operand_begins : (place : ℕ) (operand : Operand) (word : List ℕ) → begins_option word ≡ true → operand_fault place word (Some operand) ≡ Some (Unknown place)
+operand_begins place operand word begins =
+    ap (λ (b : Bool). if not b then (if is_operand operand word then None else Some (BadValue place)) else Some (Unknown place)) begins
+
+pub operand_by : (place : ℕ) (operand : Operand) (word : List ℕ) (right : Bool) → begins_option word ≡ false → is_operand operand word ≡ right →
+    operand_fault place word (Some operand) ≡ (if right then None else Some (BadValue place))
+operand_by place operand word right begins is =
+    ap (λ (b : Bool). if not b then (if is_operand operand word then None else Some (BadValue place)) else Some (Unknown place)) begins
+    ∙ ap (λ (b : Bool). if b then None else Some (BadValue place)) is

@@ -1,5 +1,5 @@
 -- The daemon's configuration: its names, and what their values may be.
-use Rattle.std.specs.Prelude.{ℕ, Bool, true, List, [], ◌∷◌, map, codes}
+use Rattle.std.specs.Prelude.{ℕ, Bool, true, List, [], ◌∷◌, map, codes, Option}
 use Rattle.std.specs.Str.{bytes_eq}
 use Rattle.fk_values.specs.Settings.{NameRule, named, reads_as}
 use Rattle.fk_values.specs.Values.{number_within}
@@ -14,12 +14,28 @@ is_yes value = bytes_eq value (codes "Y")
 abbrev pub is_any : List ℕ → Bool
 is_any value = true
 
+-- how many seconds a packet's stamp may lie from the moment at which it comes
+abbrev pub age_in : List ℕ → Option ℕ
+age_in = number_within 1 31536000
+
+-- a port
+abbrev pub port_in : List ℕ → Option ℕ
+port_in = number_within 1 65535
+
+-- how many records may be live at once
+abbrev pub live_in : List ℕ → Option ℕ
+live_in = number_within 1 4096
+
+-- how many bytes the journal may have
+abbrev pub room_in : List ℕ → Option ℕ
+room_in = number_within 16 67108864
+
 -- the table of the names: the number of what each sets, and what its value may be
 abbrev pub conf_rule : ConfName → NameRule
-conf_rule MaxSpaPacketAge = named (codes "MAX_SPA_PACKET_AGE") 0 (reads_as (number_within 1 31536000))
-conf_rule UdpservPort = named (codes "UDPSERV_PORT") 1 (reads_as (number_within 1 65535))
-conf_rule CycleLimit = named (codes "CYCLE_LIMIT") 2 (reads_as (number_within 1 4096))
-conf_rule JournalLimit = named (codes "JOURNAL_LIMIT") 3 (reads_as (number_within 16 67108864))
+conf_rule MaxSpaPacketAge = named (codes "MAX_SPA_PACKET_AGE") 0 (reads_as age_in)
+conf_rule UdpservPort = named (codes "UDPSERV_PORT") 1 (reads_as port_in)
+conf_rule CycleLimit = named (codes "CYCLE_LIMIT") 2 (reads_as live_in)
+conf_rule JournalLimit = named (codes "JOURNAL_LIMIT") 3 (reads_as room_in)
 conf_rule EnableUdpServer = named (codes "ENABLE_UDP_SERVER") 4 is_yes
 conf_rule EnableSpaPacketAging = named (codes "ENABLE_SPA_PACKET_AGING") 5 is_yes
 conf_rule EnableDigestPersistence = named (codes "ENABLE_DIGEST_PERSISTENCE") 6 is_yes

@@ -5,9 +5,10 @@ pub mod ConfErr
 pub mod ConfWhat
 pub mod DaemonCommands
 pub mod FaultNames
+pub mod Limits
+pub mod Operands
 pub mod OptionSets
 pub mod RcFault
-pub mod RcNames
 pub mod RcPrivate
 pub mod RcTable
 pub mod ReadsConf

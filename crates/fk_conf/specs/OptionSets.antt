@@ -3,11 +3,11 @@ use Rattle.std.specs.Prelude.{ℕ, Bool, ◌&&◌, ◌||◌, not, List, [], ◌�
 use Rattle.std.specs.List.{list_all, list_any}
 use Rattle.std.specs.Str.{bytes_eq}
 use Rattle.fk_conf.specs.declared.tool.Tool.{Tool}
-use Rattle.fk_conf.specs.declared.tool.Tool.TheVariants.{Daemon, Client}
+use Rattle.fk_conf.specs.declared.tool.Tool.TheVariants.{Daemon, Client, Fko}
 use Rattle.fk_conf.specs.declared.command_option.CommandOption.{CommandOption}
 use Rattle.fk_conf.specs.declared.command_option.CommandOption.TheVariants.{Foreground, ConfFile, AccessFile, PacketLimit, TurnLimit, Verbose, Trial, Quiet, FwList, StanzaName, RcFileName, PairList, Address, PacketSource, Server, ServerPort, Seconds, Print, NewKeys}
 use Rattle.fk_conf.specs.declared.option_set.OptionSet.{OptionSet}
-use Rattle.fk_conf.specs.declared.option_set.OptionSet.TheVariants.{Serve, List as FwListSet, SendForAddress, SendForSource, KeyGen, Help, Version}
+use Rattle.fk_conf.specs.declared.option_set.OptionSet.TheVariants.{Serve, SendForAddress, SendForSource, KeyGen}
 use Rattle.fk_conf.specs.declared.option_set.OptionSet.TheVariants as sets
 use Rattle.fk_conf.specs.CommandOptions.{option_rule, options_of}
 use Rattle.fk_conf.specs.WordPlaces.{is_word}
@@ -24,21 +24,21 @@ one_set required allowed = record { required = required; allowed = allowed }
 abbrev pub for_packets : List CommandOption
 for_packets = StanzaName ∷ RcFileName ∷ PairList ∷ Server ∷ ServerPort ∷ Seconds ∷ Print ∷ []
 
--- the table of the sets; help and version are words of their own, and no option
+-- the table of the sets; the others are words of their own, and no options
 abbrev pub set_of : OptionSet → SetRule
 set_of Serve = one_set (Foreground ∷ ConfFile ∷ AccessFile ∷ []) (PacketLimit ∷ TurnLimit ∷ Verbose ∷ [])
 set_of sets.Trial = one_set (Trial ∷ ConfFile ∷ AccessFile ∷ []) (Quiet ∷ Verbose ∷ [])
-set_of FwListSet = one_set (FwList ∷ []) []
+set_of sets.List = one_set (FwList ∷ []) []
 set_of SendForAddress = one_set [] (for_packets ++ Address ∷ [])
 set_of SendForSource = one_set [] (for_packets ++ PacketSource ∷ [])
 set_of KeyGen = one_set (NewKeys ∷ []) []
-set_of Help = one_set [] []
-set_of Version = one_set [] []
+set_of _ = one_set [] []
 
 -- the sets of each program, of which at most one fits, but where an address is asked for neither way
 abbrev pub sets_of : Tool → List OptionSet
-sets_of Daemon = Serve ∷ sets.Trial ∷ FwListSet ∷ []
+sets_of Daemon = Serve ∷ sets.Trial ∷ sets.List ∷ []
 sets_of Client = SendForAddress ∷ SendForSource ∷ KeyGen ∷ []
+sets_of Fko = []
 
 -- the option is in the words; no value is the word of an option
 abbrev pub stands : CommandOption → List (List ℕ) → Bool

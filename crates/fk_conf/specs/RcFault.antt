@@ -70,17 +70,17 @@ stanzas_fault names ((head ∷ lines) ∷ stanzas) =
 abbrev pub rc_fault : List ℕ → Option (ℕ × ConfWhat)
 rc_fault text = option_or (early_fault (before_head head_name (lines_of text))) (stanzas_fault [] (rc_stanzas text))
 
--- the lines behind the head of some stanza of the file have no fault
-pub record HasWholeStanza (text : List ℕ) : Type 0 where
-  pub before : List (List NumberedLine)
-  pub head : NumberedLine
-  pub lines : List NumberedLine
+-- neither the lines before the stanzas nor the stanzas up to some one have a fault
+pub record HasRightFront (text : List ℕ) : Type 0 where
+  pub front : List (List NumberedLine)
+  pub stanza : List NumberedLine
   pub behind : List (List NumberedLine)
-  pub split : rc_stanzas text ≡ before ++ (head ∷ lines) ∷ behind
-  pub faultless : first_fault rc_rules [] lines ≡ None
+  pub split : rc_stanzas text ≡ front ++ stanza ∷ behind
+  pub early : early_fault (before_head head_name (lines_of text)) ≡ None
+  pub faultless : stanzas_fault [] (front ++ stanza ∷ []) ≡ None
 
--- The answer where there is no file: its first fault, or want of memory, which is asked for only for a stanza whose lines have
--- no fault.
+-- The answer where there is no file: its first fault, or want of memory, which is asked for only for a stanza up to which there
+-- is no fault.
 abbrev pub IsRcErr : List ℕ → ConfErr → Type 0
 IsRcErr text (Fault line what) = rc_fault text ≡ Some (line, what)
-IsRcErr text NoMemory = HasWholeStanza text
+IsRcErr text NoMemory = HasRightFront text

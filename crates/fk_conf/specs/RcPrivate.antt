@@ -1,6 +1,6 @@
 -- What the contracts of this crate's private functions alone speak of: how far the reader of a client's file has come. No public
 -- contract cites it, so no caller has to believe it.
-use Rattle.std.specs.Prelude.{◌≡◌, ℕ, true, List, [], ◌∷◌, Option, Some, None}
+use Rattle.std.specs.Prelude.{◌≡◌, ℕ, true, List, [], Option, Some, None, map}
 use Rattle.std.specs.List.{list_all}
 use Rattle.std.specs.Str.{bytes_eq}
 use Rattle.fk_base.specs.Characters.{is_line_byte}
@@ -11,6 +11,7 @@ use Rattle.fk_values.specs.Settings.{first_fault}
 use Rattle.fk_conf.specs.declared.conf_err.ConfWhat.{ConfWhat}
 use Rattle.fk_conf.specs.declared.conf_err.ConfErr.{ConfErr}
 use Rattle.fk_conf.specs.declared.conf_err.ConfErr.TheVariants.{Fault, NoMemory}
+use Rattle.fk_conf.specs.declared.rc_stanza.RcStanza.{RcStanza}
 use Rattle.fk_conf.specs.RcFault.{given_by_lines, lines_fault}
 use Rattle.fk_conf.specs.RcTable.{head_name, rc_rules}
 
@@ -33,3 +34,7 @@ pub record IsRcBody (lines : List NumberedLine) (given : List (Option Setting)) 
 abbrev pub IsBodyErr : List NumberedLine → ConfErr → Type 0
 IsBodyErr lines (Fault line what) = lines_fault lines ≡ Some (line, what)
 IsBodyErr lines NoMemory = first_fault rc_rules [] lines ≡ None
+
+-- the names of stanzas
+abbrev pub names_of : List RcStanza → List (List ℕ)
+names_of stanzas = map (λ stanza. stanza.name) stanzas

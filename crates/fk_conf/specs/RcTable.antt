@@ -7,7 +7,8 @@ use Rattle.fk_fields.specs.FieldText.{is_user}
 use Rattle.fk_lines.specs.Lines.{Setting}
 use Rattle.fk_values.specs.Settings.{NameRule, named, reads_as}
 use Rattle.fk_values.specs.Values.{base64_key_in, hash_in, is_host, key_in, number_within, pairs_within}
-use Rattle.fk_conf.specs.Conf.{is_yes}
+use Rattle.fk_values.specs.declared.time.TheConstants.{LONGEST_TIME}
+use Rattle.fk_conf.specs.Conf.{is_yes, port_in}
 use Rattle.fk_conf.specs.declared.rc_name.RcName.{RcName}
 use Rattle.fk_conf.specs.declared.rc_name.RcName.TheVariants.{SpaServer, SpaServerPort, Access, AllowIp, Key, KeyBase64, HmacKey, HmacKeyBase64, HmacDigestType, DigestType, FwTimeout, SpoofUser, UseHmac}
 
@@ -18,7 +19,7 @@ allow_in value = if bytes_eq value (codes "source") then Some (record { 0 = 0 })
 -- the table of the names: the number of what each sets, and what its value may be; two spellings of a key set one thing
 abbrev pub rc_rule : RcName → NameRule
 rc_rule SpaServer = named (codes "SPA_SERVER") 0 is_host
-rc_rule SpaServerPort = named (codes "SPA_SERVER_PORT") 1 (reads_as (number_within 1 65535))
+rc_rule SpaServerPort = named (codes "SPA_SERVER_PORT") 1 (reads_as port_in)
 rc_rule Access = named (codes "ACCESS") 2 (reads_as (pairs_within 16))
 rc_rule AllowIp = named (codes "ALLOW_IP") 3 (reads_as allow_in)
 rc_rule Key = named (codes "KEY") 4 (reads_as key_in)
@@ -27,7 +28,7 @@ rc_rule HmacKey = named (codes "HMAC_KEY") 5 (reads_as key_in)
 rc_rule HmacKeyBase64 = named (codes "HMAC_KEY_BASE64") 5 (reads_as base64_key_in)
 rc_rule HmacDigestType = named (codes "HMAC_DIGEST_TYPE") 6 (reads_as hash_in)
 rc_rule DigestType = named (codes "DIGEST_TYPE") 7 (reads_as hash_in)
-rc_rule FwTimeout = named (codes "FW_TIMEOUT") 8 (reads_as (number_within 1 604800))
+rc_rule FwTimeout = named (codes "FW_TIMEOUT") 8 (reads_as (number_within 1 LONGEST_TIME))
 rc_rule SpoofUser = named (codes "SPOOF_USER") 9 is_user
 rc_rule UseHmac = named (codes "USE_HMAC") 10 is_yes
 

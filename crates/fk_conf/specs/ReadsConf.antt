@@ -2,11 +2,10 @@
 use Rattle.std.specs.Prelude.{◌≡◌, ℕ, List, Option, None, unwrap_or}
 use Rattle.fk_lines.specs.Lines.{Setting, lines_of}
 use Rattle.fk_values.specs.Settings.{given_by, read_of, settings_of}
-use Rattle.fk_values.specs.Values.{number_within}
 use Rattle.fk_conf.specs.declared.conf.Conf.{Conf}
 use Rattle.fk_conf.specs.declared.conf_name.ConfName.{ConfName}
 use Rattle.fk_conf.specs.declared.conf_name.ConfName.TheVariants.{MaxSpaPacketAge, UdpservPort, CycleLimit, JournalLimit}
-use Rattle.fk_conf.specs.Conf.{conf_rule, conf_rules}
+use Rattle.fk_conf.specs.Conf.{age_in, conf_rule, conf_rules, live_in, port_in, room_in}
 use Rattle.fk_conf.specs.ConfErr.{conf_fault}
 
 -- the number that stands behind a name, or what holds without it
@@ -16,7 +15,7 @@ conf_number name read default settings = unwrap_or (read_of read (given_by conf_
 -- the configuration has no fault, and says this
 pub record ReadsConf (text : List ℕ) (conf : Conf) : Type 0 where
   pub faultless : conf_fault text ≡ None
-  pub age : conf.age ≡ conf_number MaxSpaPacketAge (number_within 1 31536000) 120 (settings_of (lines_of text))
-  pub port : conf.port ≡ conf_number UdpservPort (number_within 1 65535) 62201 (settings_of (lines_of text))
-  pub live : conf.live ≡ conf_number CycleLimit (number_within 1 4096) 256 (settings_of (lines_of text))
-  pub room : conf.room ≡ conf_number JournalLimit (number_within 16 67108864) 16777216 (settings_of (lines_of text))
+  pub age : conf.age ≡ conf_number MaxSpaPacketAge age_in 120 (settings_of (lines_of text))
+  pub port : conf.port ≡ conf_number UdpservPort port_in 62201 (settings_of (lines_of text))
+  pub live : conf.live ≡ conf_number CycleLimit live_in 256 (settings_of (lines_of text))
+  pub room : conf.room ≡ conf_number JournalLimit room_in 16777216 (settings_of (lines_of text))

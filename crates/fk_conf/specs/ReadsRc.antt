@@ -6,20 +6,17 @@ use Rattle.fk_fields.specs.FieldText.{is_user}
 use Rattle.fk_lines.specs.Lines.{NumberedLine, Setting}
 use Rattle.fk_values.specs.KeyOf.{key_by}
 use Rattle.fk_values.specs.Settings.{read_of}
-use Rattle.fk_values.specs.Values.{hash_in, is_host, number_within, pairs_within}
+use Rattle.fk_values.specs.Values.{hash_in, host_in, number_within, pairs_within}
+use Rattle.fk_values.specs.declared.time.TheConstants.{LONGEST_TIME}
 use Rattle.fk_conf.specs.declared.rc_name.RcName.{RcName}
 use Rattle.fk_conf.specs.declared.rc_name.RcName.TheVariants.{SpaServer, SpaServerPort, Access, AllowIp, Key, KeyBase64, HmacKey, HmacKeyBase64, HmacDigestType, DigestType, FwTimeout, SpoofUser}
 use Rattle.fk_conf.specs.declared.rc_stanza.RcStanza.{RcStanza}
 use Rattle.fk_conf.specs.RcFault.{given_by_lines, rc_fault, rc_stanzas, said_name}
 use Rattle.fk_conf.specs.RcTable.{allow_in, given_in, rc_rule}
 
--- the host that a text names
-abbrev pub host_in : List ℕ → Option (List ℕ)
-host_in text = if is_host text then Some text else None
-
 -- the user that a text names
-abbrev pub user_in : List ℕ → Option (List ℕ)
-user_in text = if is_user text then Some text else None
+abbrev pub spoofed_user : List ℕ → Option (List ℕ)
+spoofed_user text = if is_user text then Some text else None
 
 -- the key that a setting gives, in base64 under this name
 abbrev pub key_of : RcName → Option Setting → Option (List ℕ)
@@ -35,8 +32,8 @@ pub record IsRcGiven (given : ℕ → Option Setting) (stanza : RcStanza) : Type
   pub mac_key : stanza.mac_key ≡ key_of HmacKeyBase64 (given_in given HmacKey)
   pub mac_kind : stanza.mac_kind ≡ read_of hash_in (given_in given HmacDigestType)
   pub kind : stanza.kind ≡ read_of hash_in (given_in given DigestType)
-  pub timeout : stanza.timeout ≡ read_of (number_within 1 604800) (given_in given FwTimeout)
-  pub user : stanza.user ≡ read_of user_in (given_in given SpoofUser)
+  pub timeout : stanza.timeout ≡ read_of (number_within 1 LONGEST_TIME) (given_in given FwTimeout)
+  pub user : stanza.user ≡ read_of spoofed_user (given_in given SpoofUser)
 
 -- a head and the lines behind it say this
 pub record SaysRc (head : NumberedLine) (lines : List NumberedLine) (stanza : RcStanza) : Type 0 where

@@ -3,21 +3,25 @@ use Rattle.std.specs.Prelude.{◌≡◌, ℕ, Bool, true, false, ◌||◌, List,
 use Rattle.std.specs.Option.{option_and_then, option_or}
 use Rattle.fk_base.specs.Address.{ip_in}
 use Rattle.fk_base.specs.declared.address.Ip4.{Ip4}
-use Rattle.fk_values.specs.Values.{number_within}
+use Rattle.fk_values.specs.Values.{host_in, number_within}
+use Rattle.fk_values.specs.declared.time.TheConstants.{LONGEST_TIME}
 use Rattle.fk_conf.specs.declared.command.Command.{Command}
 use Rattle.fk_conf.specs.declared.command.Command.TheVariants as command
 use Rattle.fk_conf.specs.declared.command.SendWords.{SendWords}
 use Rattle.fk_conf.specs.declared.command_option.CommandOption.{CommandOption}
 use Rattle.fk_conf.specs.declared.command_option.CommandOption.TheVariants.{ConfFile, AccessFile, PacketLimit, TurnLimit, Verbose, Quiet, StanzaName, RcFileName, PairList, Address, PacketSource, Server, ServerPort, Seconds, Print}
 use Rattle.fk_conf.specs.declared.option_set.OptionSet.{OptionSet}
-use Rattle.fk_conf.specs.declared.option_set.OptionSet.TheVariants.{Serve, Trial, List as FwList, SendForAddress, SendForSource, KeyGen, Help, Version}
+use Rattle.fk_conf.specs.declared.option_set.OptionSet.TheVariants.{Serve, Trial, SendForAddress, SendForSource, KeyGen, Encode, Decode, Journal, Generate, Help, Version}
+use Rattle.fk_conf.specs.declared.option_set.OptionSet.TheVariants as sets
 use Rattle.fk_conf.specs.declared.tool.Tool.{Tool}
+use Rattle.fk_conf.specs.declared.tool.Tool.TheVariants.{Daemon, Client, Fko}
 use Rattle.fk_conf.specs.declared.word_fault.WordFault.{WordFault}
 use Rattle.fk_conf.specs.declared.word_fault.WordFault.TheVariants.{Modes, NoMemory}
-use Rattle.fk_conf.specs.CommandOptions.{option_rule, pairs_unbroken}
+use Rattle.fk_conf.specs.CommandOptions.{limit_in, option_rule, pairs_unbroken}
+use Rattle.fk_conf.specs.Operands.{count_in, fko_read}
 use Rattle.fk_conf.specs.OptionSets.{fits, sets_of, stands}
 use Rattle.fk_conf.specs.WordFaults.{words_fault}
-use Rattle.fk_conf.specs.WordPlaces.{is_only, word_behind}
+use Rattle.fk_conf.specs.WordPlaces.{is_only, word_at, word_behind}
 
 -- the set that words make which fail this test, or none, where their options fit this set, or none
 abbrev pub set_unless : Option WordFault → Option OptionSet → Result OptionSet WordFault
@@ -25,12 +29,17 @@ set_unless (Some fault) set = Err fault
 set_unless None None = Err Modes
 set_unless None (Some set) = Ok set
 
+-- the set that the words of a program make which asks neither for help nor for its version, or the first test that they fail
+abbrev pub tool_read : Tool → List (List ℕ) → Result OptionSet WordFault
+tool_read Daemon words = set_unless (words_fault Daemon words) (find (fits Daemon words) (sets_of Daemon))
+tool_read Client words = set_unless (words_fault Client words) (find (fits Client words) (sets_of Client))
+tool_read Fko words = fko_read words
+
 -- The set that words make, or the first test that they fail. Help and version stand alone.
 abbrev pub set_read : Tool → List (List ℕ) → Result OptionSet WordFault
 set_read tool words =
     if is_only (codes "--help") words then Ok Help
-    else (if is_only (codes "--version") words then Ok Version
-    else set_unless (words_fault tool [] false words) (find (fits tool words) (sets_of tool)))
+    else (if is_only (codes "--version") words then Ok Version else tool_read tool words)
 
 -- the value of an option, where it is given
 abbrev pub value_of : CommandOption → List (List ℕ) → Option (List ℕ)
@@ -42,7 +51,7 @@ read_from read option words = option_and_then read (value_of option words)
 
 -- how many packets or turns an option limits a run to, where it is given
 abbrev pub limit_of : CommandOption → List (List ℕ) → Option ℕ
-limit_of option words = read_from (number_within 1 1000000000) option words
+limit_of option words = read_from limit_in option words
 
 -- the address that is asked for: a given one, or 0.0.0.0 for the one that the packet comes from
 abbrev pub address_of : List (List ℕ) → Option Ip4
@@ -59,22 +68,31 @@ pub record IsSend (words : List (List ℕ)) (send : SendWords) : Type 0 where
   pub file : send.file ≡ unwrap_or (value_of RcFileName words) (codes ".fwknoprc")
   pub pairs : send.pairs ≡ read_from pairs_unbroken PairList words
   pub allow : send.allow ≡ address_of words
-  pub server : send.server ≡ value_of Server words
+  pub server : send.server ≡ read_from host_in Server words
   pub port : send.port ≡ read_from (number_within 1 65535) ServerPort words
-  pub seconds : send.seconds ≡ read_from (number_within 1 604800) Seconds words
+  pub seconds : send.seconds ≡ read_from (number_within 1 LONGEST_TIME) Seconds words
   pub print : send.print ≡ stands Print words
 
--- the words of this set ask for this
+-- the names of the client's file and of its stanza, which are the operands of each command that asks for them
+pub record IsStanzaNamed (words : List (List ℕ)) (file name : List ℕ) : Type 0 where
+  pub file_is : file ≡ word_at words 1
+  pub name_is : name ≡ word_at words 2
+
+-- the words of this set ask for this; the command that generates lines has its count as its operand
 abbrev pub IsCommand : List (List ℕ) → OptionSet → Command → Type 0
 IsCommand words Serve (command.Serve conf access packets turns verbose) =
     IsNamed words conf access
     × ((packets ≡ limit_of PacketLimit words) × (turns ≡ limit_of TurnLimit words) × (verbose ≡ stands Verbose words))
 IsCommand words Trial (command.Trial conf access quiet verbose) =
     IsNamed words conf access × ((quiet ≡ stands Quiet words) × (verbose ≡ stands Verbose words))
-IsCommand words FwList command.List = Unit {0}
+IsCommand words sets.List command.List = Unit {0}
 IsCommand words SendForAddress (command.Send send) = IsSend words send
 IsCommand words SendForSource (command.Send send) = IsSend words send
 IsCommand words KeyGen command.KeyGen = Unit {0}
+IsCommand words Encode (command.Encode file name) = IsStanzaNamed words file name
+IsCommand words Decode (command.Decode file name) = IsStanzaNamed words file name
+IsCommand words Journal command.Journal = Unit {0}
+IsCommand words Generate (command.Generate count) = count ≡ unwrap_or (count_in (word_at words 1)) 1
 IsCommand words Help command.Help = Unit {0}
 IsCommand words Version command.Version = Unit {0}
 IsCommand words _ _ = ⊥
@@ -91,6 +109,8 @@ keeps_names Serve = true
 keeps_names Trial = true
 keeps_names SendForAddress = true
 keeps_names SendForSource = true
+keeps_names Encode = true
+keeps_names Decode = true
 keeps_names _ = false
 
 -- the words fail no test, and ask for what keeps names

@@ -1,5 +1,5 @@
 -- The tests of a command line's words, from the first word to the last.
-use Rattle.std.specs.Prelude.{ℕ, ◌+◌, ◌==◌, Bool, true, false, not, List, [], ◌∷◌, ◌++◌, length, find, Option, Some, None, if◌then◌else◌}
+use Rattle.std.specs.Prelude.{ℕ, zero, suc, ◌+◌, ◌==◌, Bool, true, false, not, List, [], ◌∷◌, length, take, drop, find, Option, Some, None, if◌then◌else◌}
 use Rattle.std.specs.List.{list_any}
 use Rattle.std.specs.Option.{option_map_or, option_or}
 use Rattle.std.specs.Str.{bytes_eq}
@@ -9,6 +9,7 @@ use Rattle.fk_conf.specs.declared.command_option.CommandOption.{CommandOption}
 use Rattle.fk_conf.specs.declared.word_fault.WordFault.{WordFault}
 use Rattle.fk_conf.specs.declared.word_fault.WordFault.TheVariants.{Unknown, Twice, NoValue, BadValue}
 use Rattle.fk_conf.specs.CommandOptions.{OptionRule, option_rule, options_of}
+use Rattle.fk_conf.specs.WordPlaces.{word_at}
 
 -- the option of a program that a word is
 abbrev pub option_of : Tool → List ℕ → Option CommandOption
@@ -36,17 +37,27 @@ known_fault rule before place behind =
     else (if rule.has_value then value_fault rule place behind else None)
 
 -- the tests of a word that is to be an option, between these words
-abbrev pub rule_fault : List (List ℕ) → ℕ → List (List ℕ) → Option CommandOption → Option WordFault
-rule_fault before place behind None = Some (Unknown place)
-rule_fault before place behind (Some option) = known_fault (option_rule option) before place behind
+abbrev pub option_fault : List (List ℕ) → List (List ℕ) → Option CommandOption → Option WordFault
+option_fault before behind None = Some (Unknown (length before + 1))
+option_fault before behind (Some option) = known_fault (option_rule option) before (length before + 1) behind
 
-abbrev pub option_fault : Tool → List (List ℕ) → List ℕ → List (List ℕ) → Option WordFault
-option_fault tool before word behind = rule_fault before (length before + 1) behind (option_of tool word)
+-- The word at a place, counted from 0, is the value of the option before it. No value begins with a dash, so before the first
+-- fault that is exactly where the word before it awaits a value.
+abbrev pub is_value_at : Tool → List (List ℕ) → ℕ → Bool
+is_value_at tool words zero = false
+is_value_at tool words (suc before) = awaits_value tool (word_at words before)
 
--- the first test that words fail, behind these words; `is_value` tells that the first of them is the value of the option
--- before it, and has been tested with it
-abbrev pub words_fault : Tool → List (List ℕ) → Bool → List (List ℕ) → Option WordFault
-words_fault tool before is_value [] = None
-words_fault tool before true (word ∷ words) = words_fault tool (before ++ word ∷ []) false words
-words_fault tool before false (word ∷ words) =
-    option_or (option_fault tool before word words) (words_fault tool (before ++ word ∷ []) (awaits_value tool word) words)
+-- the fault of the word at a place, counted from 0; a value is tested with its option
+abbrev pub fault_at : Tool → List (List ℕ) → ℕ → Option WordFault
+fault_at tool words at =
+    if is_value_at tool words at then None
+    else option_fault (take at words) (drop (at + 1) words) (option_of tool (word_at words at))
+
+-- the first fault of so many places, one by one
+abbrev pub first_fault_at : (ℕ → Option WordFault) → ℕ → Option WordFault
+first_fault_at fault zero = None
+first_fault_at fault (suc at) = option_or (first_fault_at fault at) (fault at)
+
+-- the first test that the words fail, from the first word to the last
+abbrev pub words_fault : Tool → List (List ℕ) → Option WordFault
+words_fault tool words = first_fault_at (fault_at tool words) (length words)

@@ -1,7 +1,11 @@
 -- Where words stand in a command line.
-use Rattle.std.specs.Prelude.{ℕ, Bool, false, List, [], ◌∷◌, Option, Some, None, is_some, slice_get, if◌then◌else◌}
+use Rattle.std.specs.Prelude.{ℕ, Bool, false, List, [], ◌∷◌, Option, Some, None, is_some, slice_get, unwrap_or, if◌then◌else◌}
 use Rattle.std.specs.Option.{option_and_then}
 use Rattle.std.specs.Str.{bytes_eq}
+
+-- the word at a place, counted from 0
+abbrev pub word_at : List (List ℕ) → ℕ → List ℕ
+word_at words at = unwrap_or (slice_get words at) []
 
 -- the words behind the first such word, where there is one
 abbrev pub words_behind : List ℕ → List (List ℕ) → Option (List (List ℕ))

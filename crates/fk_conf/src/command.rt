@@ -1,5 +1,7 @@
-ghost use Rattle.std.specs.Prelude.{◌≤◌};
+ghost use Rattle.std.specs.Prelude.{◌≡◌, ◌≤◌, true};
 ghost use Rattle.std.specs.Option.{ForSome};
+ghost use Rattle.fk_values.specs.Values.{is_host};
+ghost use Rattle.fk_values.specs.declared.time.TheConstants.{LONGEST_TIME};
 
 use fk_base::{Bytes, Ip4, Pairs};
 
@@ -31,6 +33,24 @@ pub enum Command {
     Send(SendWords),
     /// Show new keys.
     KeyGen,
+    /// Make datagrams from lines, by a stanza of the client's file.
+    Encode {
+        /// The name of the client's file.
+        file: Bytes,
+        /// The name of the stanza.
+        name: Bytes,
+    },
+    /// Open the datagrams of lines, by a stanza of the client's file.
+    Decode {
+        file: Bytes,
+        name: Bytes,
+    },
+    /// Show the records of the journal.
+    Journal,
+    /// Make so many lines of a trial: 1 to 100000.
+    Generate {
+        count: u64,
+    },
     Help,
     Version,
 }
@@ -45,12 +65,14 @@ pub struct SendWords {
     pub pairs: Option<Pairs>,
     /// The address to ask for; 0.0.0.0 is the one that the packet comes from.
     pub allow: Option<Ip4>,
+    /// 1 to 255 bytes without a blank.
     pub server: Option<Bytes>,
     pub port: Option<u16>,
     /// How long to ask for, in seconds: 1 to 604800.
     pub seconds: Option<u32>,
     /// Whether the datagram is shown and not sent.
     pub print: bool,
+    ghost server_is_host: { ForSome server (λ s. is_host s ≡ true) },
     ghost has_port: { ForSome port (λ p. 1 ≤ p) },
-    ghost seconds_within: { ForSome seconds (λ s. (1 ≤ s) × (s ≤ 604800)) },
+    ghost seconds_within: { ForSome seconds (λ s. (1 ≤ s) × (s ≤ LONGEST_TIME)) },
 }

@@ -4,13 +4,10 @@ ghost use Rattle.fk_conf.specs.CommandOptions.{option_rule, options_of, pairs_un
 
 use crate::Tool;
 use fk_base::{Pairs, find_ip};
-use fk_values::{is_host, is_unbroken, read_number, read_pairs};
+use fk_values::{LONGEST_TIME, is_host, is_unbroken, read_number, read_pairs};
 
 /// The most packets or turns that a command line can limit a run to.
-const GREATEST_LIMIT: u64 = 1_000_000_000;
-
-/// The longest time that a packet can ask for, in seconds: a week.
-pub(crate) const LONGEST_TIMEOUT: u64 = 604_800;
+pub(crate) const GREATEST_LIMIT: u64 = 1_000_000_000;
 
 /// An option of a command line.
 #[derive(Clone, Copy)]
@@ -106,7 +103,7 @@ impl CommandOption {
             CommandOption::Address => find_ip(value).is_some(),
             CommandOption::Server => is_host(value) && is_name(value),
             CommandOption::ServerPort => read_number(value, 1, 65_535).is_some(),
-            CommandOption::Seconds => read_number(value, 1, LONGEST_TIMEOUT).is_some(),
+            CommandOption::Seconds => read_number(value, 1, LONGEST_TIME).is_some(),
             CommandOption::Foreground
             | CommandOption::Verbose
             | CommandOption::Trial
@@ -120,7 +117,7 @@ impl CommandOption {
 }
 
 /// Whether the value is text.
-fn is_name(value: &[u8]) -> bool
+pub(crate) fn is_name(value: &[u8]) -> bool
     ensures { result ≡ is_utf8 value.now }
 {
     match str::from_utf8(value) {

@@ -17,6 +17,8 @@ mod conf_name;
 mod conf_settings;
 mod fault_names;
 mod laws;
+mod operand;
+mod operand_walk;
 mod option_set;
 mod rc_body;
 mod rc_file;

@@ -1,10 +1,13 @@
-ghost use Rattle.std.specs.Prelude.{◌≡◌, ◌||◌, not};
+ghost use Rattle.std.specs.Prelude.{◌≡◌, ◌||◌, find, not};
 ghost use Rattle.std.specs.List.{list_all};
+ghost use Rattle.std.specs.Str.{bytes_eq};
 ghost use Rattle.fk_conf.specs.CommandOptions.{options_of};
+ghost use Rattle.fk_conf.specs.Operands.{command_word, fko_commands, operands_of};
 ghost use Rattle.fk_conf.specs.OptionSets.{fits, is_among, is_in_set, set_of, stands};
 
 use crate::Tool;
 use crate::command_option::CommandOption;
+use crate::operand::Operand;
 use crate::word_places::is_in;
 use fk_base::Words;
 
@@ -17,6 +20,10 @@ pub(crate) enum OptionSet {
     SendForAddress,
     SendForSource,
     KeyGen,
+    Encode,
+    Decode,
+    Journal,
+    Generate,
     Help,
     Version,
 }
@@ -69,6 +76,20 @@ static KEY_GEN: [CommandOption; 1] = [CommandOption::NewKeys];
 
 static NONE: [CommandOption; 0] = [];
 
+static FKO_COMMANDS: [OptionSet; 5] = [
+    OptionSet::Encode,
+    OptionSet::Decode,
+    OptionSet::KeyGen,
+    OptionSet::Journal,
+    OptionSet::Generate,
+];
+
+static FILE_AND_STANZA: [Operand; 2] = [Operand::Name, Operand::Name];
+
+static COUNT: [Operand; 1] = [Operand::Count];
+
+static NO_OPERANDS: [Operand; 0] = [];
+
 impl OptionSet {
     /// The options that have to be there.
     fn required(self) -> &'static [CommandOption]
@@ -93,6 +114,40 @@ impl OptionSet {
             OptionSet::SendForAddress => &ADDRESS_TOO,
             OptionSet::SendForSource => &SOURCE_TOO,
             _ => &NONE,
+        }
+    }
+
+    /// The command of `fko` that a word is.
+    pub(crate) fn of_command(word: &[u8]) -> Option<Self>
+        ensures { result ≡ find (λ command. bytes_eq (command_word command) word.now) fko_commands }
+    {
+        FKO_COMMANDS
+            .iter()
+            .copied()
+            .find(|command| command.command_word() == word)
+    }
+
+    fn command_word(self) -> &'static [u8]
+        ensures { result.now ≡ command_word self }
+    {
+        match self {
+            OptionSet::Encode => b"encode",
+            OptionSet::Decode => b"decode",
+            OptionSet::KeyGen => b"keygen",
+            OptionSet::Journal => b"journal",
+            OptionSet::Generate => b"generate",
+            _ => b"",
+        }
+    }
+
+    /// What the words behind the command are.
+    pub(crate) fn operands(self) -> &'static [Operand]
+        ensures { result.now ≡ operands_of self }
+    {
+        match self {
+            OptionSet::Encode | OptionSet::Decode => &FILE_AND_STANZA,
+            OptionSet::Generate => &COUNT,
+            _ => &NO_OPERANDS,
         }
     }
 

@@ -10,7 +10,8 @@ use fk_base::{Ip4, find_ip};
 use fk_fields::is_user;
 use fk_lines::Line;
 use fk_values::{
-    Given, MOST_SETTINGS, is_base64_key, is_host, is_key, read_hash_name, read_number, read_pairs,
+    Given, LONGEST_TIME, MOST_SETTINGS, is_base64_key, is_host, is_key, read_hash_name,
+    read_number, read_pairs,
 };
 
 /// A name of a stanza of the client's file.
@@ -107,7 +108,7 @@ impl RcName {
             RcName::Key | RcName::HmacKey => is_key(value),
             RcName::KeyBase64 | RcName::HmacKeyBase64 => is_base64_key(value),
             RcName::HmacDigestType | RcName::DigestType => read_hash_name(value).is_some(),
-            RcName::FwTimeout => read_number(value, 1, 604_800).is_some(),
+            RcName::FwTimeout => read_number(value, 1, LONGEST_TIME).is_some(),
             RcName::SpoofUser => is_user(value),
             RcName::UseHmac => value == b"Y".as_slice(),
         }

@@ -2,6 +2,7 @@ ghost use Rattle.std.specs.Prelude.{◌≡◌, ◌≤◌, length, true};
 ghost use Rattle.std.specs.Option.{ForSome};
 ghost use Rattle.fk_fields.specs.FieldText.{is_user};
 ghost use Rattle.fk_values.specs.Values.{is_host};
+ghost use Rattle.fk_values.specs.declared.time.TheConstants.{LONGEST_TIME};
 
 use fk_base::{Bytes, HashKind, Ip4, Pairs};
 
@@ -35,6 +36,6 @@ pub struct RcStanza {
     ghost has_port: { ForSome port (λ p. 1 ≤ p) },
     ghost key_within: { ForSome key (λ k. (1 ≤ length k) × (length k ≤ 128)) },
     ghost mac_key_within: { ForSome mac_key (λ k. (1 ≤ length k) × (length k ≤ 128)) },
-    ghost timeout_within: { ForSome timeout (λ t. (1 ≤ t) × (t ≤ 604800)) },
+    ghost timeout_within: { ForSome timeout (λ t. (1 ≤ t) × (t ≤ LONGEST_TIME)) },
     ghost user_is_right: { ForSome user (λ u. is_user u ≡ true) },
 }

@@ -3,16 +3,18 @@ ghost use Rattle.std.specs.Option.{option_map};
 ghost use Rattle.fk_fields.specs.FieldText.{is_user};
 ghost use Rattle.fk_values.specs.Given.{given_at, said_by};
 ghost use Rattle.fk_values.specs.Settings.{read_of};
-ghost use Rattle.fk_values.specs.Values.{hash_in, is_host, number_within, pairs_within};
+ghost use Rattle.fk_values.specs.Values.{hash_in, host_in, is_host, number_within, pairs_within};
 ghost use Rattle.fk_conf.specs.RcTable.{allow_in, given_in};
-ghost use Rattle.fk_conf.specs.ReadsRc.{IsRcGiven, host_in, key_of, user_in};
+ghost use Rattle.fk_conf.specs.ReadsRc.{IsRcGiven, key_of, spoofed_user};
 
 use crate::RcStanza;
 use crate::rc_name::{RcName, read_allow};
 use fk_base::{Bytes, HashKind, Ip4, NoMemory, Pairs};
 use fk_fields::is_user;
 use fk_lines::Line;
-use fk_values::{Given, KEY_LIMIT, is_host, read_hash_name, read_number, read_pairs, take_key_of};
+use fk_values::{
+    Given, KEY_LIMIT, LONGEST_TIME, is_host, read_hash_name, read_number, read_pairs, take_key_of,
+};
 use std::alloc::Global;
 
 /// The stanza of this name whose lines set what is given.
@@ -55,7 +57,7 @@ fn server_of(alloc: Global, line: Option<Line<'_>>) -> Result<Option<Bytes>, NoM
 }
 
 fn user_of(alloc: Global, line: Option<Line<'_>>) -> Result<Option<Bytes>, NoMemory>
-    ensures user { IfOk result (λ user. user ≡ read_of user_in (option_map said_by line.entry)) }
+    ensures user { IfOk result (λ user. user ≡ read_of spoofed_user (option_map said_by line.entry)) }
     ensures right { IfOk result (λ user. IfSome user (λ u. is_user u ≡ true)) }
 {
     match line {
@@ -88,10 +90,10 @@ fn port_of(line: Option<Line<'_>>) -> Option<u16>
 }
 
 fn timeout_of(line: Option<Line<'_>>) -> Option<u32>
-    ensures timeout { result ≡ read_of (number_within 1 604800) (option_map said_by line.entry) }
-    ensures within { IfSome result (λ timeout. (1 ≤ timeout) × (timeout ≤ 604800)) }
+    ensures timeout { result ≡ read_of (number_within 1 LONGEST_TIME) (option_map said_by line.entry) }
+    ensures within { IfSome result (λ timeout. (1 ≤ timeout) × (timeout ≤ LONGEST_TIME)) }
 {
-    let timeout = read_number(line?.value, 1, 604_800)?;
+    let timeout = read_number(line?.value, 1, LONGEST_TIME)?;
     Some(timeout as u32)
 }
 

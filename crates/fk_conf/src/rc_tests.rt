@@ -1,6 +1,7 @@
 use crate::{ConfErr, ConfWhat, read_rc};
-use fk_base::{HashKind, Ip4};
+use fk_base::{Bytes, HashKind, Ip4, NoMemory};
 use fk_lines::LineFault;
+use std::alloc::Global;
 use std::test::Fail;
 
 const EXAMPLE: &[u8] = b"# client settings
@@ -64,7 +65,7 @@ fn other_settings_are_read(rt: HostRuntime) -> Result<(), Fail> {
 // The number of the first line that is wrong, and what is, by the table in docs/configuration.md.
 #[test]
 fn the_first_wrong_line_is_told(rt: HostRuntime) -> Result<(), Fail> {
-    let rows: [(&[u8], u32, ConfWhat); 22] = [
+    let rows: [(&[u8], u32, ConfWhat); 27] = [
         (b"KEY k", 1, ConfWhat::NoStanza),
         (b"\nNONE k", 2, ConfWhat::UnknownName),
         (b"KEY", 1, ConfWhat::Line(LineFault::NoValue)),
@@ -91,6 +92,12 @@ fn the_first_wrong_line_is_told(rt: HostRuntime) -> Result<(), Fail> {
         (b"[a]\nKEY k\n[b]\nKEY k\n[a]\nNONE 1", 5, ConfWhat::Twice),
         (b"[a]\nKEY k\x07", 2, ConfWhat::Line(LineFault::BadByte)),
         (b"[a]\nDIGEST_TYPE md5\nDIGEST_TYPE md5", 3, ConfWhat::Twice),
+        // A second stanza, for which memory was asked before.
+        (b"[a]\nKEY k\n[b]\nKEY k\nNONE 1", 5, ConfWhat::UnknownName),
+        (b"[a]\nKEY k\n[b]\nFW_TIMEOUT 0", 4, ConfWhat::BadValue),
+        (b"[a]\n[b]\nKEY", 3, ConfWhat::Line(LineFault::NoValue)),
+        (b"[a]\nKEY k\n[b]\nKEY k\nKEY l", 5, ConfWhat::Twice),
+        (b"[a]\nKEY k\n\n[]", 4, ConfWhat::Line(LineFault::NoValue)),
     ];
     for (text, line, what) in rows {
         assert!(rt; text.len() < 200);
@@ -98,6 +105,76 @@ fn the_first_wrong_line_is_told(rt: HostRuntime) -> Result<(), Fail> {
             Ok(_file) => assert!(rt; false),
             Err(err) => assert_eq!(rt; err, ConfErr::Fault { line, what }),
         }
+    }
+    Ok(())
+}
+
+fn fault_of(alloc: Global, text: &[u8]) -> Option<ConfErr> {
+    if text.len() > fk_lines::FILE_LIMIT {
+        return Some(ConfErr::NoMemory);
+    }
+    read_rc(alloc, text).err()
+}
+
+fn repeated(alloc: Global, front: &[u8], item: &[u8], count: usize) -> Result<Bytes, NoMemory> {
+    let mut text = Bytes::copy(alloc, front)?;
+    for _ in 0..count {
+        text.append(item)?;
+    }
+    Ok(text)
+}
+
+// As many of a thing as there may be, and one more.
+#[test]
+fn values_have_limits(rt: HostRuntime) -> Result<(), Fail> {
+    let rows: [(&[u8], &[u8], usize); 2] = [
+        (b"[a]\nSPA_SERVER ", b"h", 255),
+        (b"[a]\nACCESS tcp/1", b",tcp/1", 15),
+    ];
+    for (front, item, most) in rows {
+        assert!(rt; most < 1000);
+        let fits = repeated(rt.alloc(), front, item, most)?;
+        assert_eq!(rt; fault_of(rt.alloc(), fits.as_slice()), None);
+        let more = repeated(rt.alloc(), front, item, most + 1)?;
+        assert_eq!(rt;
+            fault_of(rt.alloc(), more.as_slice()),
+            Some(ConfErr::Fault {
+                line: 2,
+                what: ConfWhat::BadValue,
+            })
+        );
+    }
+    assert_eq!(rt; fault_of(rt.alloc(), b"[a]\nFW_TIMEOUT 1"), None);
+    Ok(())
+}
+
+// Stanzas of the names aa, ba, .. za, ab and so on.
+fn stanzas(alloc: Global, count: u16) -> Result<Bytes, NoMemory> {
+    let mut text = Bytes::copy(alloc, b"")?;
+    for at in 0..count {
+        let name = [b'a' + (at % 26) as u8, b'a' + (at / 26 % 26) as u8];
+        text.append(b"[")?;
+        text.append(&name)?;
+        text.append(b"]\n")?;
+    }
+    Ok(text)
+}
+
+#[test]
+fn a_file_has_256_stanzas_at_most(rt: HostRuntime) -> Result<(), Fail> {
+    let rows = [
+        (256, None),
+        (
+            257,
+            Some(ConfErr::Fault {
+                line: 257,
+                what: ConfWhat::TooMany,
+            }),
+        ),
+    ];
+    for (count, fault) in rows {
+        let text = stanzas(rt.alloc(), count)?;
+        assert_eq!(rt; fault_of(rt.alloc(), text.as_slice()), fault);
     }
     Ok(())
 }

@@ -5,8 +5,7 @@ ghost use Rattle.fk_lines.specs.Cursor.{said};
 ghost use Rattle.fk_values.specs.Settings.{first_fault};
 ghost use Rattle.fk_values.specs.Stanzas.{before_head, stanzas_from, stanzas_in};
 ghost use Rattle.fk_conf.specs.RcFault.{IsRcErr, early_fault, early_name, name_fault};
-ghost use Rattle.fk_conf.specs.RcNames.{names_of};
-ghost use Rattle.fk_conf.specs.RcPrivate.{IsBodyErr, IsFaultAt, IsHead};
+ghost use Rattle.fk_conf.specs.RcPrivate.{IsBodyErr, IsFaultAt, IsHead, names_of};
 ghost use Rattle.fk_conf.specs.RcTable.{head_name, rc_rules};
 ghost use Rattle.fk_conf.specs.ReadsRc.{ReadsRc, SaysRc};
 

@@ -1,22 +1,29 @@
 ghost use Rattle.std.specs.Prelude.{◌≡◌, ◌≤◌, IfOk, IfSome, IsErr, MatchResult, None, Some, find, if◌then◌else◌, true, unwrap_or};
 ghost use Rattle.fk_base.specs.Address.{ip_in};
-ghost use Rattle.fk_values.specs.Values.{number_within};
+ghost use Rattle.fk_values.specs.Values.{host_in, is_host, number_within};
 ghost use Rattle.fk_conf.specs.CommandOptions.{pairs_unbroken};
+ghost use Rattle.fk_conf.specs.Limits.{HasLimits};
+ghost use Rattle.fk_conf.specs.Operands.{count_in};
 ghost use Rattle.fk_conf.specs.OptionSets.{fits, sets_of, stands};
 ghost use Rattle.fk_conf.specs.ReadsWords.{IsCommand, IsSend, IsWordErr, ReadsWords, address_of, keeps_names, read_from, set_read, set_unless, value_of};
+ghost use Rattle.fk_conf.specs.WordFaults.{words_fault};
+ghost use Rattle.fk_conf.specs.WordPlaces.{word_at};
 
-use crate::command_option::{CommandOption, LONGEST_TIMEOUT, read_unbroken_pairs};
+use crate::command_option::{CommandOption, GREATEST_LIMIT, read_unbroken_pairs};
+use crate::operand::GREATEST_COUNT;
+use crate::operand_walk::read_fko;
 use crate::option_set::OptionSet;
 use crate::word_places::{is_in, is_only, word_behind};
-use crate::word_walk::walk;
+use crate::word_walk::words_fault;
 use crate::{Command, SendWords, Tool, WordFault};
 use fk_base::{Bytes, Ip4, NoMemory, Pairs, Words, find_ip};
-use fk_values::read_number;
+use fk_values::{LONGEST_TIME, is_host, read_number};
 use std::alloc::Global;
 
 /// Reads the words of a program's command line, without the program's name.
 pub fn read_words(alloc: Global, tool: Tool, words: &Words) -> Result<Command, WordFault>
-    ensures { MatchResult result (ReadsWords tool words.now) (IsWordErr tool words.now) }
+    ensures command { MatchResult result (ReadsWords tool words.now) (IsWordErr tool words.now) }
+    ensures limits { IfOk result HasLimits }
 {
     let set = match read_set(tool, words) {
         Ok(set) => set,
@@ -38,15 +45,19 @@ fn read_set(tool: Tool, words: &Words) -> Result<OptionSet, WordFault>
     if is_only(words, b"--version") {
         return Ok(OptionSet::Version);
     }
-    match walk(tool, words) {
-        Ok(()) => set_that_fits(tool, words),
-        Err(fault) => Err(fault),
+    match tool {
+        Tool::Daemon | Tool::Client => read_options(tool, words),
+        Tool::Fko => read_fko(words),
     }
 }
 
-fn set_that_fits(tool: Tool, words: &Words) -> Result<OptionSet, WordFault>
-    ensures { result ≡ set_unless None (find (fits tool words.now) (sets_of tool)) }
+/// The set that the options make, or the first test that the words fail.
+fn read_options(tool: Tool, words: &Words) -> Result<OptionSet, WordFault>
+    ensures { result ≡ set_unless (words_fault tool words.now) (find (fits tool words.now) (sets_of tool)) }
 {
+    if let Some(fault) = words_fault(tool, words) {
+        return Err(fault);
+    }
     match fitting_set(tool, words) {
         Some(set) => Ok(set),
         None => Err(WordFault::Modes),
@@ -65,6 +76,7 @@ fn fitting_set(tool: Tool, words: &Words) -> Option<OptionSet>
 /// What the words of this set ask for.
 fn command_of(alloc: Global, set: OptionSet, words: &Words) -> Result<Command, NoMemory>
     ensures command { IfOk result (IsCommand words.now set) }
+    ensures limits { IfOk result HasLimits }
     ensures memory { IsErr result → keeps_names set ≡ true }
 {
     match set {
@@ -75,25 +87,39 @@ fn command_of(alloc: Global, set: OptionSet, words: &Words) -> Result<Command, N
             Ok(Command::Send(send_of(alloc, words)?))
         }
         OptionSet::KeyGen => Ok(Command::KeyGen),
+        OptionSet::Encode => Ok(Command::Encode {
+            file: operand_of(alloc, words, 1)?,
+            name: operand_of(alloc, words, 2)?,
+        }),
+        OptionSet::Decode => Ok(Command::Decode {
+            file: operand_of(alloc, words, 1)?,
+            name: operand_of(alloc, words, 2)?,
+        }),
+        OptionSet::Journal => Ok(Command::Journal),
+        OptionSet::Generate => Ok(Command::Generate {
+            count: count_of(words),
+        }),
         OptionSet::Help => Ok(Command::Help),
         OptionSet::Version => Ok(Command::Version),
     }
 }
 
 fn serve_of(alloc: Global, words: &Words) -> Result<Command, NoMemory>
-    ensures { IfOk result (IsCommand words.now OptionSet.Serve) }
+    ensures command { IfOk result (IsCommand words.now OptionSet.Serve) }
+    ensures limits { IfOk result HasLimits }
 {
     Ok(Command::Serve {
         conf: name_of(alloc, CommandOption::ConfFile, words, b"")?,
         access: name_of(alloc, CommandOption::AccessFile, words, b"")?,
-        packets: number_of(CommandOption::PacketLimit, words, 1_000_000_000),
-        turns: number_of(CommandOption::TurnLimit, words, 1_000_000_000),
+        packets: number_of(CommandOption::PacketLimit, words, GREATEST_LIMIT),
+        turns: number_of(CommandOption::TurnLimit, words, GREATEST_LIMIT),
         verbose: is_in(words, CommandOption::Verbose.word()),
     })
 }
 
 fn trial_of(alloc: Global, words: &Words) -> Result<Command, NoMemory>
-    ensures { IfOk result (IsCommand words.now OptionSet.Trial) }
+    ensures command { IfOk result (IsCommand words.now OptionSet.Trial) }
+    ensures limits { IfOk result HasLimits }
 {
     Ok(Command::Trial {
         conf: name_of(alloc, CommandOption::ConfFile, words, b"")?,
@@ -133,12 +159,38 @@ fn name_of(
     }
 }
 
+/// The word at this place, from 0.
+fn operand_of(alloc: Global, words: &Words, at: usize) -> Result<Bytes, NoMemory>
+    ensures { IfOk result (λ name. name ≡ word_at words.now at) }
+{
+    if at < words.count() {
+        Bytes::copy(alloc, words.get(at))
+    } else {
+        Bytes::copy(alloc, b"")
+    }
+}
+
+/// How many lines to make.
+fn count_of(words: &Words) -> u64
+    ensures count { result ≡ unwrap_or (count_in (word_at words.now 1)) 1 }
+    ensures within { (1 ≤ result) × (result ≤ GREATEST_COUNT) }
+{
+    if words.count() < 2 {
+        return 1;
+    }
+    match read_number(words.get(1), 1, GREATEST_COUNT) {
+        Some(count) => count,
+        None => 1,
+    }
+}
+
 fn server_of(alloc: Global, words: &Words) -> Result<Option<Bytes>, NoMemory>
-    ensures { IfOk result (λ server. server ≡ value_of CommandOption.Server words.now) }
+    ensures server { IfOk result (λ server. server ≡ read_from host_in CommandOption.Server words.now) }
+    ensures right { IfOk result (λ server. IfSome server (λ s. is_host s ≡ true)) }
 {
     match word_behind(words, CommandOption::Server.word()) {
-        Some(server) => Ok(Some(Bytes::copy(alloc, server)?)),
-        None => Ok(None),
+        Some(server) if is_host(server) => Ok(Some(Bytes::copy(alloc, server)?)),
+        _ => Ok(None),
     }
 }
 
@@ -159,10 +211,10 @@ fn port_of(words: &Words) -> Option<u16>
 }
 
 fn seconds_of(words: &Words) -> Option<u32>
-    ensures number { result ≡ read_from (number_within 1 604800) CommandOption.Seconds words.now }
-    ensures within { IfSome result (λ seconds. (1 ≤ seconds) × (seconds ≤ 604800)) }
+    ensures number { result ≡ read_from (number_within 1 LONGEST_TIME) CommandOption.Seconds words.now }
+    ensures within { IfSome result (λ seconds. (1 ≤ seconds) × (seconds ≤ LONGEST_TIME)) }
 {
-    let seconds = number_of(CommandOption::Seconds, words, LONGEST_TIMEOUT)?;
+    let seconds = number_of(CommandOption::Seconds, words, LONGEST_TIME)?;
     Some(seconds as u32)
 }
 

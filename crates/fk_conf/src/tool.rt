@@ -10,6 +10,8 @@ use crate::option_set::OptionSet;
 pub enum Tool {
     Daemon,
     Client,
+    /// The tool `fko`, whose words stand at fixed places.
+    Fko,
 }
 
 static DAEMON_OPTIONS: [CommandOption; 9] = [
@@ -45,6 +47,10 @@ static CLIENT_SETS: [OptionSet; 3] = [
     OptionSet::KeyGen,
 ];
 
+static NO_OPTIONS: [CommandOption; 0] = [];
+
+static NO_SETS: [OptionSet; 0] = [];
+
 impl Tool {
     /// The options that it has.
     pub(crate) fn options(self) -> &'static [CommandOption]
@@ -53,6 +59,7 @@ impl Tool {
         match self {
             Tool::Daemon => &DAEMON_OPTIONS,
             Tool::Client => &CLIENT_OPTIONS,
+            Tool::Fko => &NO_OPTIONS,
         }
     }
 
@@ -63,6 +70,7 @@ impl Tool {
         match self {
             Tool::Daemon => &DAEMON_SETS,
             Tool::Client => &CLIENT_SETS,
+            Tool::Fko => &NO_SETS,
         }
     }
 }

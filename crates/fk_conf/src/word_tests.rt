@@ -27,7 +27,7 @@ fn fault_of(alloc: Global, tool: Tool, text: &[u8]) -> Result<Option<WordFault>,
 // The daemon's first fault, by the table in docs/configuration.md.
 #[test]
 fn daemon_words_have_faults(rt: HostRuntime) -> Result<(), Fail> {
-    let rows: [(&[u8], WordFault); 25] = [
+    let rows: [(&[u8], WordFault); 44] = [
         (b"", WordFault::Modes),
         (b"--trial --trial", WordFault::Twice(2)),
         (b"--bogus", WordFault::Unknown(1)),
@@ -53,6 +53,26 @@ fn daemon_words_have_faults(rt: HostRuntime) -> Result<(), Fail> {
         (b"-fv", WordFault::Unknown(1)),
         (b"--help -v", WordFault::Unknown(1)),
         (b"-n default", WordFault::Unknown(1)),
+        (b"-f -f", WordFault::Twice(2)),
+        (b"-a a1 -a a1", WordFault::Twice(3)),
+        (b"-C 1 -C 1", WordFault::Twice(3)),
+        (b"--turns 1 --turns 1", WordFault::Twice(3)),
+        (b"-v -v", WordFault::Twice(2)),
+        (b"-q -q", WordFault::Twice(2)),
+        (b"--fw-list --fw-list", WordFault::Twice(2)),
+        (b"--turns 0", WordFault::BadValue(2)),
+        (b"--turns 1000000001", WordFault::BadValue(2)),
+        (b"-f --fw-list", WordFault::Modes),
+        (b"--trial --fw-list", WordFault::Modes),
+        // Each option alone, but for the one that is a set.
+        (b"-f", WordFault::Modes),
+        (b"-c c0", WordFault::Modes),
+        (b"-a a1", WordFault::Modes),
+        (b"-C 1000000000", WordFault::Modes),
+        (b"--turns 1", WordFault::Modes),
+        (b"-v", WordFault::Modes),
+        (b"--trial", WordFault::Modes),
+        (b"-q", WordFault::Modes),
     ];
     for (text, fault) in rows {
         assert_eq!(rt; fault_of(rt.alloc(), Tool::Daemon, text)?, Some(fault));
@@ -63,7 +83,7 @@ fn daemon_words_have_faults(rt: HostRuntime) -> Result<(), Fail> {
 // The client's first fault, by the same table.
 #[test]
 fn client_words_have_faults(rt: HostRuntime) -> Result<(), Fail> {
-    let rows: [(&[u8], WordFault); 29] = [
+    let rows: [(&[u8], WordFault); 40] = [
         (b"--bogus", WordFault::Unknown(1)),
         (b"-n", WordFault::NoValue(1)),
         (b"-n \xff", WordFault::BadValue(2)),
@@ -93,6 +113,20 @@ fn client_words_have_faults(rt: HostRuntime) -> Result<(), Fail> {
         (b"-n web x -p 0", WordFault::Unknown(3)),
         (b"-p 0 -n", WordFault::BadValue(2)),
         (b"--", WordFault::Unknown(1)),
+        (b"-n web -n web", WordFault::Twice(3)),
+        (b"--rc-file rc --rc-file rc", WordFault::Twice(3)),
+        (b"-A tcp/1 -A tcp/1", WordFault::Twice(3)),
+        (b"-a 10.0.0.7 -a 10.0.0.7", WordFault::Twice(3)),
+        (b"-D h -D h", WordFault::Twice(3)),
+        (b"-p 1 -p 1", WordFault::Twice(3)),
+        (b"-A", WordFault::NoValue(1)),
+        (b"-a", WordFault::NoValue(1)),
+        (b"-D", WordFault::NoValue(1)),
+        (b"-p", WordFault::NoValue(1)),
+        (
+            b"-A tcp/1,tcp/1,tcp/1,tcp/1,tcp/1,tcp/1,tcp/1,tcp/1,tcp/1,tcp/1,tcp/1,tcp/1,tcp/1,tcp/1,tcp/1,tcp/1,tcp/1",
+            WordFault::BadValue(2),
+        ),
     ];
     for (text, fault) in rows {
         assert_eq!(rt; fault_of(rt.alloc(), Tool::Client, text)?, Some(fault));
@@ -100,10 +134,60 @@ fn client_words_have_faults(rt: HostRuntime) -> Result<(), Fail> {
     Ok(())
 }
 
+// The first fault of the words of fko, by the same table.
+#[test]
+fn fko_words_have_faults(rt: HostRuntime) -> Result<(), Fail> {
+    let rows: [(&[u8], WordFault); 24] = [
+        (b"", WordFault::Modes),
+        (b"bogus", WordFault::Unknown(1)),
+        (b"Encode rc web", WordFault::Unknown(1)),
+        (b"-k", WordFault::Unknown(1)),
+        (b"--help encode", WordFault::Unknown(1)),
+        (b"encode --help", WordFault::Unknown(2)),
+        (b"encode", WordFault::Modes),
+        (b"encode rc", WordFault::Modes),
+        (b"encode rc web x", WordFault::Unknown(4)),
+        (b"encode -rc web", WordFault::Unknown(2)),
+        (b"encode rc -web", WordFault::Unknown(3)),
+        (b"encode \xff", WordFault::BadValue(2)),
+        (b"decode", WordFault::Modes),
+        (b"decode rc \xff x", WordFault::BadValue(3)),
+        (b"keygen x", WordFault::Unknown(2)),
+        (b"journal x y", WordFault::Unknown(2)),
+        (b"journal -x", WordFault::Unknown(2)),
+        (b"generate", WordFault::Modes),
+        (b"generate 0", WordFault::BadValue(2)),
+        (b"generate 100001", WordFault::BadValue(2)),
+        (b"generate 01", WordFault::BadValue(2)),
+        (b"generate -1", WordFault::Unknown(2)),
+        (b"generate x y", WordFault::BadValue(2)),
+        (b"generate 1 2", WordFault::Unknown(3)),
+    ];
+    for (text, fault) in rows {
+        assert_eq!(rt; fault_of(rt.alloc(), Tool::Fko, text)?, Some(fault));
+    }
+    Ok(())
+}
+
+static LONG: [u8; 256] = [b'h'; 256];
+
+#[test]
+fn a_host_has_255_bytes_at_most(rt: HostRuntime) -> Result<(), Fail> {
+    let rows = [(255, None), (256, Some(WordFault::BadValue(2)))];
+    for (len, fault) in rows {
+        assert!(rt; len <= LONG.len());
+        let mut words = Words::new(rt.alloc());
+        words.push(b"-D")?;
+        words.push(&LONG[..len])?;
+        assert_eq!(rt; read_words(rt.alloc(), Tool::Client, &words).err(), fault);
+    }
+    Ok(())
+}
+
 // Each option alone where that is a set, at the ends of its range.
 #[test]
 fn right_words_have_no_fault(rt: HostRuntime) -> Result<(), Fail> {
-    let rows: [(Tool, &[u8]); 22] = [
+    let rows: [(Tool, &[u8]); 31] = [
         (Tool::Daemon, b"-f -c c0 -a a1"),
         (Tool::Daemon, b"-v --turns 1000000000 -a a1 -C 1 -c c0 -f"),
         (Tool::Daemon, b"--trial -c c0 -a a1 -q -v"),
@@ -129,6 +213,18 @@ fn right_words_have_no_fault(rt: HostRuntime) -> Result<(), Fail> {
             Tool::Client,
             b"-T -s -f 60 -p 1 -D h -A tcp/22 --rc-file rc -n web",
         ),
+        (
+            Tool::Client,
+            b"-A tcp/1,tcp/1,tcp/1,tcp/1,tcp/1,tcp/1,tcp/1,tcp/1,tcp/1,tcp/1,tcp/1,tcp/1,tcp/1,tcp/1,tcp/1,tcp/1",
+        ),
+        (Tool::Fko, b"encode rc web"),
+        (Tool::Fko, b"decode rc web"),
+        (Tool::Fko, b"keygen"),
+        (Tool::Fko, b"journal"),
+        (Tool::Fko, b"generate 1"),
+        (Tool::Fko, b"generate 100000"),
+        (Tool::Fko, b"--help"),
+        (Tool::Fko, b"--version"),
     ];
     for (tool, text) in rows {
         assert_eq!(rt; fault_of(rt.alloc(), tool, text)?, None);
@@ -166,6 +262,30 @@ fn words_are_kept(rt: HostRuntime) -> Result<(), Fail> {
             assert_eq!(rt; (send.port, send.seconds), (Some(5), Some(60)));
             assert!(rt; send.print && send.pairs.is_some() && send.server.is_some());
         }
+        _other => assert!(rt; false),
+    }
+    Ok(())
+}
+
+#[test]
+fn operands_are_kept(rt: HostRuntime) -> Result<(), Fail> {
+    let alloc = rt.alloc();
+    match read_words(alloc, Tool::Fko, &words_of(alloc, b"encode rc web")?) {
+        Ok(Command::Encode { file, name }) => {
+            assert_eq!(rt; file.as_slice(), b"rc".as_slice());
+            assert_eq!(rt; name.as_slice(), b"web".as_slice());
+        }
+        _other => assert!(rt; false),
+    }
+    match read_words(alloc, Tool::Fko, &words_of(alloc, b"decode rc web")?) {
+        Ok(Command::Decode { file, name }) => {
+            assert_eq!(rt; file.as_slice(), b"rc".as_slice());
+            assert_eq!(rt; name.as_slice(), b"web".as_slice());
+        }
+        _other => assert!(rt; false),
+    }
+    match read_words(alloc, Tool::Fko, &words_of(alloc, b"generate 1000")?) {
+        Ok(Command::Generate { count }) => assert_eq!(rt; count, 1000),
         _other => assert!(rt; false),
     }
     Ok(())

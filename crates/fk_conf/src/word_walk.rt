@@ -1,103 +1,97 @@
-ghost use Rattle.std.specs.Prelude.{◌≡◌, ◌+◌, ◌<◌, ◌≤◌, [], MatchResult, None, Some, drop, length, slice_get, take, false};
+ghost use Rattle.std.specs.Prelude.{◌≡◌, ◌+◌, ◌<◌, ◌≤◌, drop, length, take};
 ghost use Rattle.std.specs.List.{list_any};
 ghost use Rattle.std.specs.Str.{bytes_eq};
 ghost use Rattle.fk_conf.specs.CommandOptions.{option_rule};
-ghost use Rattle.fk_conf.specs.WordFaults.{awaits_value, begins_option, known_fault, option_fault, value_fault, words_fault};
+ghost use Rattle.fk_conf.specs.WordFaults.{awaits_value, begins_option, fault_at, is_value_at, known_fault, value_fault, words_fault};
 
 use crate::command_option::CommandOption;
 use crate::{Tool, WordFault};
 use fk_base::Words;
 
-/// Tests the words one by one. It takes no memory.
-pub(crate) fn walk(tool: Tool, words: &Words) -> Result<(), WordFault>
-    ensures { MatchResult result
-        (λ _. words_fault tool [] false words.now ≡ None)
-        (λ fault. words_fault tool [] false words.now ≡ Some fault) }
+/// The first test that the words fail, one by one. It takes no memory.
+pub(crate) fn words_fault(tool: Tool, words: &Words) -> Option<WordFault>
+    ensures { result ≡ words_fault tool words.now }
 {
-    let mut is_value = false;
     for at in 0..words.count() {
-        match test_word(tool, words, at, is_value) {
-            Ok(next_is_value) => is_value = next_is_value,
-            Err(fault) => return Err(fault),
+        if let Some(fault) = fault_at(tool, words, at) {
+            return Some(fault);
         }
     }
-    Ok(())
+    None
 }
 
-/// Tests the word at this place, from 0, which is a value or is to be an option. Answers whether the next word is a value.
-fn test_word(tool: Tool, words: &Words, at: usize, is_value: bool) -> Result<bool, WordFault>
+/// The fault of the word at this place, from 0. A value is tested with its option.
+fn fault_at(tool: Tool, words: &Words, at: usize) -> Option<WordFault>
     requires word { at < length words.now }
     requires fits { at < usize.MAX }
-    ensures { MatchResult result
-        (λ next. words_fault tool (take at words.now) is_value (drop at words.now) ≡ words_fault tool (take (at + 1) words.now) next (drop (at + 1) words.now))
-        (λ fault. words_fault tool (take at words.now) is_value (drop at words.now) ≡ Some fault) }
+    ensures { result ≡ fault_at tool words.now at }
 {
-    if is_value {
-        return Ok(false);
+    if is_value_at(tool, words, at) {
+        return None;
     }
-    match test_option(tool, words, at, words.get(at)) {
-        Ok(next_is_value) => Ok(next_is_value),
-        Err(fault) => Err(fault),
+    match CommandOption::of(tool, words.get(at)) {
+        Some(option) => known_fault(option, words, at),
+        None => Some(WordFault::Unknown(at + 1)),
     }
 }
 
-/// Tests the word at this place, from 0, which is to be an option. Answers whether the next word is its value.
-fn test_option(tool: Tool, words: &Words, at: usize, word: &[u8]) -> Result<bool, WordFault>
-    requires word { slice_get words.now at ≡ Some word.now }
-    requires fits { at < usize.MAX }
-    ensures { MatchResult result
-        (λ next. (option_fault tool (take at words.now) word.now (drop (at + 1) words.now) ≡ None) × (next ≡ awaits_value tool word.now))
-        (λ fault. option_fault tool (take at words.now) word.now (drop (at + 1) words.now) ≡ Some fault) }
+/// Whether the word at this place, from 0, is the value of the option before it.
+fn is_value_at(tool: Tool, words: &Words, at: usize) -> bool
+    requires { at < length words.now }
+    ensures { result ≡ is_value_at tool words.now at }
+{
+    if at == 0 {
+        return false;
+    }
+    awaits_value(tool, words.get(at - 1))
+}
+
+fn awaits_value(tool: Tool, word: &[u8]) -> bool
+    ensures { result ≡ awaits_value tool word.now }
 {
     match CommandOption::of(tool, word) {
-        Some(option) => test_known(option, words, at),
-        None => Err(WordFault::Unknown(at + 1)),
+        Some(option) => option.has_value(),
+        None => false,
     }
 }
 
-/// Tests the option at this place, from 0. Answers whether the next word is its value.
-fn test_known(option: CommandOption, words: &Words, at: usize) -> Result<bool, WordFault>
+/// The first test that the option at this place, from 0, fails.
+fn known_fault(option: CommandOption, words: &Words, at: usize) -> Option<WordFault>
     requires word { at < length words.now }
     requires fits { at < usize.MAX }
-    ensures { MatchResult result
-        (λ next. (known_fault (option_rule option) (take at words.now) (at + 1) (drop (at + 1) words.now) ≡ None) × (next ≡ (option_rule option).has_value))
-        (λ fault. known_fault (option_rule option) (take at words.now) (at + 1) (drop (at + 1) words.now) ≡ Some fault) }
+    ensures { result ≡ known_fault (option_rule option) (take at words.now) (at + 1) (drop (at + 1) words.now) }
 {
     if stands_before(words, at, option.word()) {
-        return Err(WordFault::Twice(at + 1));
+        return Some(WordFault::Twice(at + 1));
     }
-    if !option.has_value() {
-        return Ok(false);
-    }
-    match test_value(option, words, at) {
-        Ok(()) => Ok(true),
-        Err(fault) => Err(fault),
+    if option.has_value() {
+        value_fault(option, words, at)
+    } else {
+        None
     }
 }
 
-/// Tests the value of the option at this place, from 0.
-fn test_value(option: CommandOption, words: &Words, at: usize) -> Result<(), WordFault>
+/// The first test that the value of the option at this place, from 0, fails.
+fn value_fault(option: CommandOption, words: &Words, at: usize) -> Option<WordFault>
     requires word { at < length words.now }
     requires fits { at < usize.MAX }
-    ensures { MatchResult result
-        (λ _. value_fault (option_rule option) (at + 1) (drop (at + 1) words.now) ≡ None)
-        (λ fault. value_fault (option_rule option) (at + 1) (drop (at + 1) words.now) ≡ Some fault) }
+    ensures { result ≡ value_fault (option_rule option) (at + 1) (drop (at + 1) words.now) }
 {
     if at + 1 == words.count() {
-        return Err(WordFault::NoValue(at + 1));
+        return Some(WordFault::NoValue(at + 1));
     }
     let value = words.get(at + 1);
     if begins_option(value) {
-        return Err(WordFault::NoValue(at + 1));
+        return Some(WordFault::NoValue(at + 1));
     }
     if !option.is_value(value) {
-        return Err(WordFault::BadValue(at + 2));
+        return Some(WordFault::BadValue(at + 2));
     }
-    Ok(())
+    None
 }
 
 /// Whether a word begins with a dash, as no value does.
-fn begins_option(word: &[u8]) -> bool
+pub(crate) fn begins_option(word: &[u8]) -> bool
     ensures { result ≡ begins_option word.now }
 {
     match word {

@@ -16,4 +16,4 @@ mod trim;
 
 pub use fault::LineFault;
 pub use lines::{FILE_LIMIT, Line, Lines};
-pub use trim::{trim_front, without_last};
+pub use trim::{is_blank, trim_front, without_last};

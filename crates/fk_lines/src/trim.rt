@@ -4,7 +4,7 @@ ghost use Rattle.fk_base.specs.Characters.{is_blank};
 ghost use Rattle.fk_lines.specs.Lines.{is_no_blank, trim_back, trim_front, trimmed, without_last};
 
 /// A space or a tab.
-pub(crate) fn is_blank(byte: u8) -> bool
+pub fn is_blank(byte: u8) -> bool
     ensures { result ≡ is_blank byte }
 {
     byte == b' ' || byte == b'\t'

@@ -13,8 +13,8 @@ use Rattle.fk_base.specs.declared.grant.Grant.{Grant}
 use Rattle.fk_subst.specs.declared.variable.Var.{Var}
 use Rattle.fk_subst.specs.declared.piece.Piece.{Piece}
 use Rattle.fk_subst.specs.declared.piece.Piece.TheVariants.{Plain, Name}
-use Rattle.fk_subst.specs.Template.{words_in, BeginsWith, IsTemplateOf, Spells}
-use Rattle.fk_subst.specs.Fill.{filled, is_value_byte, piece_text, plain_text, value_text, IsGrant, KeepsPlainText}
+use Rattle.fk_subst.specs.Template.{words_in, BeginsWith, IsTemplateOf, AreWordPieces}
+use Rattle.fk_subst.specs.Fill.{filled, is_value_byte, piece_text, value_text, IsGrant}
 use Rattle.fk_subst.proofs.Known.{slice_split_some}
 use Rattle.fk_subst.proofs.Pieces.{some_length}
 use Rattle.fk_subst.proofs.Templates.{is_word, same_count}
@@ -44,7 +44,7 @@ some_piece grant is (Plain bytes) text rest begins = some_length bytes begins.0
 some_piece grant is (Name var) text rest begins = (IsValue-value_text grant is var).some
 
 -- so is a word
-short_word : (grant : Grant) → IsGrant grant → (pieces : List Piece) (word : List ℕ) → Spells pieces word →
+short_word : (grant : Grant) → IsGrant grant → (pieces : List Piece) (word : List ℕ) → AreWordPieces pieces word →
     7 * length (flat_map (piece_text grant) pieces) ≤ 160 * length word
 short_word grant is [] word spells = omega arith
 short_word grant is (piece ∷ pieces) word spells =
@@ -52,7 +52,7 @@ short_word grant is (piece ∷ pieces) word spells =
     let others = short_word grant is pieces spells.0 spells.2 in
     omega (arith, length-append (piece_text grant piece) (flat_map (piece_text grant) pieces), first, others)
 
-some_word : (grant : Grant) → IsGrant grant → (pieces : List Piece) (word : List ℕ) → Spells pieces word → 1 ≤ length word →
+some_word : (grant : Grant) → IsGrant grant → (pieces : List Piece) (word : List ℕ) → AreWordPieces pieces word → 1 ≤ length word →
     1 ≤ length (flat_map (piece_text grant) pieces)
 some_word grant is [] word spells some = absurd (let none = ap (λ (l : List ℕ). length l) spells in omega (arith, none, some))
 some_word grant is (piece ∷ pieces) word spells some =
@@ -60,7 +60,7 @@ some_word grant is (piece ∷ pieces) word spells some =
     omega (arith, length-append (piece_text grant piece) (flat_map (piece_text grant) pieces), first)
 
 -- and a template
-short_words : (grant : Grant) → IsGrant grant → (template : List (List Piece)) (words : List (List ℕ)) → AllZip Spells template words →
+short_words : (grant : Grant) → IsGrant grant → (template : List (List Piece)) (words : List (List ℕ)) → AllZip AreWordPieces template words →
     7 * length (concat (filled template grant)) ≤ 160 * length (concat words)
 short_words grant is [] [] all = omega arith
 short_words grant is [] (word ∷ words) all = absurd all
@@ -122,7 +122,7 @@ front_bytes : (front rest : List ℕ) → AllByRecursion IsRunByte (front ++ res
 front_bytes [] rest all = (tt, all)
 front_bytes (byte ∷ front) rest all = let others = front_bytes front rest all.1 in ((all.0, others.0), others.1)
 
-filled_bytes : (grant : Grant) → IsGrant grant → (pieces : List Piece) (word : List ℕ) → Spells pieces word → AllByRecursion IsRunByte word →
+filled_bytes : (grant : Grant) → IsGrant grant → (pieces : List Piece) (word : List ℕ) → AreWordPieces pieces word → AllByRecursion IsRunByte word →
     AllPass is_word_byte (flat_map (piece_text grant) pieces)
 filled_bytes grant is [] word spells all = All-nil IsRunByte
 filled_bytes grant is (Plain bytes ∷ pieces) word spells all =
@@ -136,7 +136,7 @@ filled_bytes grant is (Name var ∷ pieces) word spells all =
     let value = All-weaker (λ b. is_value_byte b ≡ true) IsRunByte value_is_word_byte (value_text grant var) (IsValue-value_text grant is var).bytes in
     All-append IsRunByte (value_text grant var) (flat_map (piece_text grant) pieces) value (filled_bytes grant is pieces spells.0 spells.2 split.1)
 
-filled_words : (grant : Grant) → IsGrant grant → (template : List (List Piece)) (words : List (List ℕ)) → AllZip Spells template words →
+filled_words : (grant : Grant) → IsGrant grant → (template : List (List Piece)) (words : List (List ℕ)) → AllZip AreWordPieces template words →
     AllByRecursion (λ word. AllByRecursion IsRunByte word × (1 ≤ length word)) words →
     AllByRecursion (λ word. (word ≢ []) × AllPass is_word_byte word) (filled template grant)
 filled_words grant is [] [] all good = tt
@@ -171,29 +171,3 @@ AreCommandWords-filled grant is text template bytes split =
     some_pieces : (t : List (List Piece)) → t ≢ [] → 1 ≤ length t
     some_pieces [] some = absurd (some refl)
     some_pieces (pieces ∷ t) some = omega arith
-
--- each byte of a filled word comes from a value or stands in the word's plain text
-abbrev Stands : List ℕ → ℕ → Type 0
-Stands plain byte = IsTrue (is_value_byte byte) ⊎ Contains plain byte
-
-stands_behind : (front rest : List ℕ) (byte : ℕ) → Stands rest byte → Stands (front ++ rest) byte
-stands_behind front rest byte stands = ⊎_elim (λ value. inl value) (λ has. inr (Contains-append_right front rest byte has)) stands
-
-pub KeepsPlainText-filled : (grant : Grant) → IsGrant grant → (pieces : List Piece) → KeepsPlainText pieces (flat_map (piece_text grant) pieces)
-KeepsPlainText-filled grant is [] = λ k d within. absurd (omega arith)
-KeepsPlainText-filled grant is (Plain bytes ∷ pieces) =
-    let plain = flat_map plain_text pieces in
-    let filling = flat_map (piece_text grant) pieces in
-    All-append (Stands (bytes ++ plain)) bytes filling
-    (All-weaker (Contains bytes) (Stands (bytes ++ plain)) (λ byte has. inr (Contains-append_left bytes plain byte has)) bytes (All-contains_itself bytes))
-    (All-weaker (Stands plain) (Stands (bytes ++ plain)) (stands_behind bytes plain) filling (KeepsPlainText-filled grant is pieces))
-KeepsPlainText-filled grant is (Name var ∷ pieces) =
-    let plain = flat_map plain_text pieces in
-    All-append (Stands plain) (value_text grant var) (flat_map (piece_text grant) pieces)
-    (All-weaker (λ byte. is_value_byte byte ≡ true) (Stands plain) (λ byte value. inl value) (value_text grant var) (IsValue-value_text grant is var).bytes)
-    (KeepsPlainText-filled grant is pieces)
-
--- word by word
-pub KeepsPlainText-words : (grant : Grant) → IsGrant grant → (template : List (List Piece)) → AllZip KeepsPlainText template (filled template grant)
-KeepsPlainText-words grant is [] = tt
-KeepsPlainText-words grant is (pieces ∷ template) = (KeepsPlainText-filled grant is pieces, KeepsPlainText-words grant is template)

@@ -8,7 +8,7 @@ use Rattle.std.proofs.lemmas.Bool.Decides.{nat_tests}
 use Rattle.fk_subst.specs.declared.variable.Var.{Var}
 use Rattle.fk_subst.specs.declared.piece.Piece.{Piece}
 use Rattle.fk_subst.specs.declared.piece.Piece.TheVariants.{Plain, Name}
-use Rattle.fk_subst.specs.Template.{is_name_letter, is_plain, var_named, IsRun, BeginsWith, Spells}
+use Rattle.fk_subst.specs.Template.{is_name_letter, is_plain, var_named, IsRun, BeginsWith, AreWordPieces}
 use Rattle.fk_subst.specs.CommandFault.{begins_unknown}
 use Rattle.fk_subst.proofs.Known.{IsKnown, known_behind}
 use Rattle.fk_subst.proofs.Runs.{IsRun-front, same_front}
@@ -49,16 +49,16 @@ known_plain (byte ∷ more) rest plain known = (
 )
 
 -- each `$` of a word that pieces spell begins a name
-pub Spells-known : (pieces : List Piece) (word : List ℕ) → Spells pieces word → IsKnown word
-Spells-known [] word spells = rw spells tt
-Spells-known (Plain bytes ∷ pieces) word spells =
+pub AreWordPieces-known : (pieces : List Piece) (word : List ℕ) → AreWordPieces pieces word → IsKnown word
+AreWordPieces-known [] word spells = rw spells tt
+AreWordPieces-known (Plain bytes ∷ pieces) word spells =
     let begins = spells.1 in
-    rw begins.1.joined (known_plain bytes spells.0 begins.1.passes (Spells-known pieces spells.0 spells.2))
-Spells-known (Name var ∷ pieces) word spells =
+    rw begins.1.joined (known_plain bytes spells.0 begins.1.passes (AreWordPieces-known pieces spells.0 spells.2))
+AreWordPieces-known (Name var ∷ pieces) word spells =
     let begins = spells.1 in
     let name = begins.0 in let more = begins.1 in
     let letters : AllPass is_plain name = All-weaker (λ b. is_name_letter b ≡ true) (λ b. is_plain b ≡ true) letter_is_plain name begins.3.passes in
-    let behind : IsKnown more = rw begins.3.joined (known_plain name spells.0 letters (Spells-known pieces spells.0 spells.2)) in
+    let behind : IsKnown more = rw begins.3.joined (known_plain name spells.0 letters (AreWordPieces-known pieces spells.0 spells.2)) in
     let known : is_none (var_named (take_while is_name_letter more)) ≡ false =
     rw (IsRun-front is_name_letter more name spells.0 begins.3, begins.4) refl in
     rw begins.2 (known, behind)
@@ -85,7 +85,7 @@ one_piece (Name var) (Name another) text rest left begins too =
     let named : Some var ≡ Some another = sym begins.4 ∙ ap var_named same.0 ∙ too.4 in
     ((let e : var ≡ another = cc in ap (λ (v : Var). Name v) e), same.1)
 
-pub one_spelling : (pieces others : List Piece) (word : List ℕ) → Spells pieces word → Spells others word → pieces ≡ others
+pub one_spelling : (pieces others : List Piece) (word : List ℕ) → AreWordPieces pieces word → AreWordPieces others word → pieces ≡ others
 one_spelling [] [] word spells too = refl
 one_spelling [] (piece ∷ others) word spells too =
     absurd (let shorter = BeginsWith-shorter piece word too.0 too.1 in let none = ap (λ (l : List ℕ). length l) spells in omega (arith, shorter, none))
@@ -93,7 +93,7 @@ one_spelling (piece ∷ pieces) [] word spells too =
     absurd (let shorter = BeginsWith-shorter piece word spells.0 spells.1 in let none = ap (λ (l : List ℕ). length l) too in omega (arith, shorter, none))
 one_spelling (piece ∷ pieces) (other ∷ others) word spells too =
     let same = one_piece piece other word spells.0 too.0 spells.1 too.1 in
-    let left : Spells pieces too.0 = subst (λ (l : List ℕ). Spells pieces l) same.1 spells.2 in
+    let left : AreWordPieces pieces too.0 = subst (λ (l : List ℕ). AreWordPieces pieces l) same.1 spells.2 in
     let rest = one_spelling pieces others too.0 left too.2 in
     (let head = same.0 in cc)
 
@@ -104,7 +104,7 @@ known_behind_piece (Name var) text rest begins known =
     known_behind begins.0 rest (rw begins.3.joined at (let all : IsKnown (36 ∷ begins.1) = rw begins.2 at known in all.1))
 
 -- so the words of a text have one template
-pub one_template : (template other : List (List Piece)) (words : List (List ℕ)) → AllZip Spells template words → AllZip Spells other words → template ≡ other
+pub one_template : (template other : List (List Piece)) (words : List (List ℕ)) → AllZip AreWordPieces template words → AllZip AreWordPieces other words → template ≡ other
 one_template [] [] [] all too = refl
 one_template [] (o ∷ other) [] all too = absurd too
 one_template (t ∷ template) other [] all too = absurd all
@@ -116,8 +116,8 @@ one_template (t ∷ template) (o ∷ other) (word ∷ words) all too =
     cc
 
 -- each `$` of the words begins a name
-pub words_known : (template : List (List Piece)) (words : List (List ℕ)) → AllZip Spells template words → AllByRecursion IsKnown words
+pub words_known : (template : List (List Piece)) (words : List (List ℕ)) → AllZip AreWordPieces template words → AllByRecursion IsKnown words
 words_known [] [] all = tt
 words_known [] (word ∷ words) all = absurd all
 words_known (pieces ∷ template) [] all = absurd all
-words_known (pieces ∷ template) (word ∷ words) all = (Spells-known pieces word all.0, words_known template words all.1)
+words_known (pieces ∷ template) (word ∷ words) all = (AreWordPieces-known pieces word all.0, words_known template words all.1)

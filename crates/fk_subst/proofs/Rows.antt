@@ -6,7 +6,7 @@ use Rattle.fk_base.specs.declared.pair.Proto.TheVariants.{Udp, Tcp}
 use Rattle.fk_base.specs.declared.grant.Grant.{Grant}
 use Rattle.fk_subst.specs.declared.variable.Var.TheVariants as var
 use Rattle.fk_subst.specs.declared.piece.Piece.TheVariants.{Plain, Name}
-use Rattle.fk_subst.specs.Template.{is_name_letter, is_plain, words_in, IsRun, Spells}
+use Rattle.fk_subst.specs.Template.{is_name_letter, is_plain, words_in, IsRun, AreWordPieces}
 use Rattle.fk_subst.specs.CommandFault.{begins_unknown}
 use Rattle.fk_subst.specs.Fill.{filled}
 
@@ -22,7 +22,7 @@ longer_name = refl
 known_name : begins_unknown (codes "$IP/$PORT") ≡ false
 known_name = refl
 
-three_pieces : Spells (Name var.Proto ∷ Plain (codes "/") ∷ Name var.Port ∷ []) (codes "$PROTO/$PORT")
+three_pieces : AreWordPieces (Name var.Proto ∷ Plain (codes "/") ∷ Name var.Port ∷ []) (codes "$PROTO/$PORT")
 three_pieces = (
   codes "/$PORT",
   (codes "PROTO", codes "PROTO/$PORT", refl, proto_run, refl),

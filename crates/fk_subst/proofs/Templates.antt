@@ -8,7 +8,7 @@ use Rattle.fk_subst.specs.declared.piece.Piece.{Piece}
 use Rattle.fk_subst.specs.declared.fault.CommandFault.{CommandFault}
 use Rattle.fk_subst.specs.declared.fault.CommandFault.TheVariants.{Empty, TooLong, UnknownName, NoMemory}
 use Rattle.fk_base.specs.Characters.{is_blank}
-use Rattle.fk_subst.specs.Template.{words_in, Spells, IsTemplateOf}
+use Rattle.fk_subst.specs.Template.{words_in, AreWordPieces, IsTemplateOf}
 use Rattle.fk_subst.specs.CommandFault.{begins_unknown, FirstCommandFault, IsFaultless, IsFirstUnknown, IsTooLong}
 use Rattle.fk_subst.proofs.Known.{IsKnown, IsKnown-places, IsKnown-runs, known_places, known_runs, known_words}
 use Rattle.fk_subst.proofs.Pieces.{words_known}
@@ -20,14 +20,14 @@ none_from_some None false e = cc
 none_from_some (Some x) true e = cc
 none_from_some (Some x) false e = refl
 
-pub same_count : (template : List (List Piece)) (words : List (List ℕ)) → AllZip Spells template words → length template ≡ length words
+pub same_count : (template : List (List Piece)) (words : List (List ℕ)) → AllZip AreWordPieces template words → length template ≡ length words
 same_count [] [] all = refl
 same_count [] (word ∷ words) all = absurd all
 same_count (pieces ∷ template) [] all = absurd all
 same_count (pieces ∷ template) (word ∷ words) all = ap suc (same_count template words all.1)
 
 pub AllZip_push : (template : List (List Piece)) (words : List (List ℕ)) (pieces : List Piece) (word : List ℕ) →
-    AllZip Spells template words → Spells pieces word → AllZip Spells (template ++ pieces ∷ []) (words ++ word ∷ [])
+    AllZip AreWordPieces template words → AreWordPieces pieces word → AllZip AreWordPieces (template ++ pieces ∷ []) (words ++ word ∷ [])
 AllZip_push [] [] pieces word all spells = (spells, tt)
 AllZip_push [] (w ∷ words) pieces word all spells = absurd all
 AllZip_push (p ∷ template) [] pieces word all spells = absurd all
@@ -42,14 +42,14 @@ filter_push_word runs run some = filter-append is_word runs (run ∷ []) ∙ rw 
 pub filter_push_empty : (runs : List (List ℕ)) (run : List ℕ) → (length run == 0) ≡ true → filter is_word (runs ++ run ∷ []) ≡ filter is_word runs
 filter_push_empty runs run empty = filter-append is_word runs (run ∷ []) ∙ rw empty (append-nil (filter is_word runs))
 
-no_words : (words : List (List ℕ)) → AllZip Spells [] words → words ≡ []
+no_words : (words : List (List ℕ)) → AllZip AreWordPieces [] words → words ≡ []
 no_words [] all = refl
 no_words (word ∷ words) all = absurd all
 
-pub whole_template : (text : List ℕ) (template : List (List Piece)) → IsFaultless text → AllZip Spells template (words_in text) → IsTemplateOf text template
+pub whole_template : (text : List ℕ) (template : List (List Piece)) → IsFaultless text → AllZip AreWordPieces template (words_in text) → IsTemplateOf text template
 whole_template text template right all = record {
   short = right.short;
-  some = λ none. right.some (no_words (words_in text) (subst (λ (t : List (List Piece)). AllZip Spells t (words_in text)) none all));
+  some = λ none. right.some (no_words (words_in text) (subst (λ (t : List (List Piece)). AllZip AreWordPieces t (words_in text)) none all));
   few = (let few = right.few in omega (arith, same_count template (words_in text) all));
   words = all;
 }
@@ -67,9 +67,9 @@ template_known text template is =
     known_places text (IsKnown-runs text (known_words (slice_split is_blank text) (words_known template (words_in text) is.words)))
 
 pub no_fault : (text : List ℕ) (template : List (List Piece)) (fault : CommandFault) → IsTemplateOf text template → FirstCommandFault text fault → ⊥
-no_fault text template Empty is fault = is.some (no_template template (subst (λ (w : List (List ℕ)). AllZip Spells template w) fault is.words))
+no_fault text template Empty is fault = is.some (no_template template (subst (λ (w : List (List ℕ)). AllZip AreWordPieces template w) fault is.words))
   where
-    no_template : (t : List (List Piece)) → AllZip Spells t [] → t ≡ []
+    no_template : (t : List (List Piece)) → AllZip AreWordPieces t [] → t ≡ []
     no_template [] all = refl
     no_template (pieces ∷ t) all = absurd all
 no_fault text template TooLong is fault =

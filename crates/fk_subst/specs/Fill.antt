@@ -1,5 +1,5 @@
 -- What a template is filled with.
-use Rattle.std.specs.Prelude.{◌⊎◌, ℕ, ◌<◌, ◌^◌, Bool, ◌||◌, ◌==◌, List, [], ◌∷◌, map, codes, IsTrue, All, Contains}
+use Rattle.std.specs.Prelude.{ℕ, ◌<◌, ◌^◌, Bool, ◌||◌, ◌==◌, List, [], ◌∷◌, map, codes}
 use Rattle.std.specs.List.{flat_map}
 use Rattle.std.specs.Char.{is_ascii_digit, is_ascii_lowercase}
 use Rattle.std.specs.Fmt.{decimal}
@@ -41,16 +41,7 @@ filled template grant = map (flat_map (piece_text grant)) template
 abbrev pub is_value_byte : ℕ → Bool
 is_value_byte byte = is_ascii_digit byte || is_ascii_lowercase byte || byte == 44 || byte == 46 || byte == 47
 
--- the plain text of a word, without its names
-abbrev pub plain_text : Piece → List ℕ
-plain_text (Plain bytes) = bytes
-plain_text (Name var) = []
-
 -- a grant's numbers are within their types
 pub record IsGrant (grant : Grant) : Type 0 where
   pub pairs : IsPairs grant.pairs
   pub seconds : grant.seconds < 2 ^ 32
-
--- each byte of a filled word is one that a value may have, or stands in the word's plain text
-abbrev pub KeepsPlainText : List Piece → List ℕ → Type 0
-KeepsPlainText pieces word = All (λ byte. IsTrue (is_value_byte byte) ⊎ Contains (flat_map plain_text pieces) byte) word

@@ -44,13 +44,13 @@ BeginsWith (Name var) text rest =
     (name : List ℕ) × (more : List ℕ) × (text ≡ 36 ∷ more) × IsRun is_name_letter more name rest × (var_named name ≡ Some var)
 
 -- the pieces, joined, are the word
-abbrev pub Spells : List Piece → List ℕ → Type 0
-Spells [] word = word ≡ []
-Spells (piece ∷ pieces) word = (rest : List ℕ) × BeginsWith piece word rest × Spells pieces rest
+abbrev pub AreWordPieces : List Piece → List ℕ → Type 0
+AreWordPieces [] word = word ≡ []
+AreWordPieces (piece ∷ pieces) word = (rest : List ℕ) × BeginsWith piece word rest × AreWordPieces pieces rest
 
 -- the template of a text, which has 1 to 32 words and at most 512 bytes
 pub record IsTemplateOf (text : List ℕ) (template : List (List Piece)) : Type 0 where
   pub short : length text ≤ 512
   pub some : template ≢ []
   pub few : length template ≤ 32
-  pub words : AllZip Spells template (words_in text)
+  pub words : AllZip AreWordPieces template (words_in text)

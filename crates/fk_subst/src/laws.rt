@@ -1,12 +1,9 @@
-ghost use Rattle.std.specs.Prelude.{List};
-ghost use Rattle.std.specs.List.{AllZip};
+ghost use Rattle.std.specs.List.{AllPass};
 ghost use Rattle.fk_base.specs.declared.grant.Grant.{Grant};
-ghost use Rattle.fk_subst.specs.declared.piece.Piece.{Piece};
-ghost use Rattle.fk_subst.specs.Fill.{filled, IsGrant, KeepsPlainText};
+ghost use Rattle.fk_subst.specs.declared.variable.Var.{Var};
+ghost use Rattle.fk_subst.specs.Fill.{is_value_byte, value_text, IsGrant};
 
-/// From a packet only digits, small letters, `,`, `.` and `/` come into a command's words: any other byte of a filled word
-/// stands in the plain text of the template's word.
+/// From a packet only digits, small letters, `,`, `.` and `/` come into a command's words: no value has another byte.
 pub fn values_are_plain_bytes()
-    ensures { (template : List (List Piece)) (grant : Grant) → IsGrant grant
-        → AllZip KeepsPlainText template (filled template grant) }
+    ensures { (grant : Grant) (var : Var) → IsGrant grant → AllPass is_value_byte (value_text grant var) }
 {}

@@ -1,5 +1,5 @@
 ghost use Rattle.std.specs.Prelude.{◌≡◌, ◌≢◌, ℕ, ◌∷◌, IfOk, List, [], false, true, drop, MatchOption};
-ghost use Rattle.fk_subst.specs.Template.{BeginsWith, Spells};
+ghost use Rattle.fk_subst.specs.Template.{BeginsWith, AreWordPieces};
 ghost use Rattle.fk_subst.specs.CommandFault.{begins_unknown};
 ghost use Rattle.fk_subst.specs.declared.piece.Piece.{Piece};
 ghost use Rattle.fk_subst.specs.declared.piece.Piece.TheVariants.{Name};
@@ -37,7 +37,7 @@ impl Word {
 /// Cuts a word of which each `$` begins a name.
 pub(crate) fn cut_word(alloc: Global, word: &[u8]) -> Result<Word, NoMemory>
     requires { (place : ℕ) → begins_unknown (drop place word.now) ≡ false }
-    ensures { IfOk result (λ pieces. Spells pieces word.now) }
+    ensures { IfOk result (λ pieces. AreWordPieces pieces word.now) }
 {
     let mut pieces = Vec::new(alloc);
     let mut rest = word;

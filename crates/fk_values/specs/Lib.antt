@@ -1,5 +1,6 @@
 pub mod Given
 pub mod KeyOf
+pub mod Private
 pub mod Settings
 pub mod Stanzas
 pub mod Values

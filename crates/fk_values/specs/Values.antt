@@ -55,14 +55,13 @@ unfoldable pub base64_key_in : List ℕ → Option (List ℕ)
 base64_key_in text = option_and_then key_in (bytes_in (without_padding text))
 
 -- the items in the parts between commas: behind each comma there may be blanks
-abbrev pub items_left : Bool → List (List ℕ) → List (List ℕ)
-items_left true parts = map trim_front parts
-items_left false [] = []
-items_left false (first ∷ others) = first ∷ map trim_front others
+abbrev pub items_of_parts : List (List ℕ) → List (List ℕ)
+items_of_parts [] = []
+items_of_parts (first ∷ others) = first ∷ map trim_front others
 
 -- the items of a list, between its commas (44)
 abbrev pub items_of : List ℕ → List (List ℕ)
-items_of text = items_left false (parts_at 44 text)
+items_of text = items_of_parts (parts_at 44 text)
 
 -- an address, or an address and the number of the net's bits, from 0 to 32
 abbrev pub are_net_parts : List (List ℕ) → Bool
@@ -99,3 +98,7 @@ is_unbroken text = list_all (λ byte. not (is_blank byte)) text
 -- the address or the name of a host: 1 to 255 bytes without a blank
 abbrev pub is_host : List ℕ → Bool
 is_host text = has_len_within 255 text && is_unbroken text
+
+-- the host that a text names
+abbrev pub host_in : List ℕ → Option (List ℕ)
+host_in text = if is_host text then Some text else None

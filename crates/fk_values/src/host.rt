@@ -1,9 +1,10 @@
 ghost use Rattle.std.specs.Prelude.{◌≡◌};
-ghost use Rattle.fk_base.specs.Characters.{is_blank};
 ghost use Rattle.fk_values.specs.Values.{is_host, is_unbroken};
 
+use fk_lines::is_blank;
+
 /// The most bytes of a host's address or name.
-pub const HOST_LIMIT: usize = 255;
+const HOST_LIMIT: usize = 255;
 
 /// Whether the text is an address or a name of a host: 1 to 255 bytes without a blank.
 pub fn is_host(text: &[u8]) -> bool
@@ -17,10 +18,4 @@ pub fn is_unbroken(text: &[u8]) -> bool
     ensures { result ≡ is_unbroken text.now }
 {
     text.iter().all(|byte| !is_blank(*byte))
-}
-
-fn is_blank(byte: u8) -> bool
-    ensures { result ≡ is_blank byte }
-{
-    byte == b' ' || byte == b'\t'
 }

@@ -15,7 +15,7 @@ pub struct Items<'a> {
 
 impl<'a> Model for Items<'a> {
     ghost use Rattle.std.specs.Prelude.{List, ℕ};
-    ghost use Rattle.fk_values.specs.Values.{items_left};
+    ghost use Rattle.fk_values.specs.Private.{items_left};
 
     ghost Value = { List (List ℕ) };
 

@@ -1,4 +1,4 @@
-ghost use Rattle.std.specs.Prelude.{◌≡◌, ◌≤◌, IfOk, IfSome, Some, is_some, length};
+ghost use Rattle.std.specs.Prelude.{◌≡◌, ◌≤◌, IfOk, IfSome, None, Ok, Some, is_some, length};
 ghost use Rattle.fk_values.specs.Given.{said_by};
 ghost use Rattle.fk_values.specs.KeyOf.{key_by};
 ghost use Rattle.fk_values.specs.Values.{base64_key_in, key_in, without_padding};
@@ -73,6 +73,8 @@ pub fn take_key_of(
 ) -> Result<Option<Bytes>, NoMemory>
     ensures key { IfOk result (λ key. key ≡ key_by base64_name.now (said_by line.entry)) }
     ensures bounds { IfOk result (λ key. IfSome key (λ k. (1 ≤ length k) × (length k ≤ KEY_LIMIT))) }
+    // What is no key is told without memory.
+    ensures refused { key_by base64_name.now (said_by line.entry) ≡ None → result ≡ Ok None }
 {
     if base64_name == line.name {
         take_base64_key(alloc, line.value)

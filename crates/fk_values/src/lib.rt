@@ -18,14 +18,16 @@ mod pairs;
 mod setting_fault;
 #[cfg(test)]
 mod tests;
+mod time;
 
 pub use flag::read_flag;
 pub use given::{Given, MOST_SETTINGS};
 pub use hash_name::read_hash_name;
-pub use host::{HOST_LIMIT, is_host, is_unbroken};
+pub use host::{is_host, is_unbroken};
 pub use items::Items;
 pub use key::{KEY_LIMIT, is_base64_key, is_key, take_base64_key, take_key, take_key_of};
 pub use net::{find_net, nets_are_found};
 pub use number::read_number;
 pub use pairs::read_pairs;
 pub use setting_fault::SettingFault;
+pub use time::LONGEST_TIME;

@@ -1,6 +1,6 @@
 use Rattle.std.proofs.Common.{◌≡◌, ◌+◌, ◌∷◌, [], length, length-append, sym, ap, ◌∙◌, arith}
 use Rattle.fk_values.specs.Values.{items_of}
-use Rattle.fk_access.proofs.ListsRead.{nets_begin, nets_end, nets_go_on}
+use Rattle.fk_access.proofs.NetsRead.{nets_begin, nets_end, nets_go_on}
 use Rattle.fk_access.proofs.net_list.read_nets.Goals as goal
 
 pub loop-item-init : goal.loop-item-init

@@ -1,6 +1,6 @@
 use Rattle.std.proofs.Common.{◌≤◌, length}
 use Rattle.fk_values.specs.Values.{items_of}
-use Rattle.fk_access.proofs.ListsRead.{IsNetsReading}
+use Rattle.fk_access.proofs.NetsRead.{IsNetsReading}
 use Rattle.fk_access.proofs.net_list.read_nets.Given as goal
 
 abbrev pub invariant-loop-item : goal.invariant-loop-item

@@ -1,6 +1,6 @@
 use Rattle.std.proofs.Common.{◌≤◌, length}
 use Rattle.fk_values.specs.Values.{items_of}
-use Rattle.fk_access.proofs.ListsRead.{IsPairsReading}
+use Rattle.fk_values.proofs.PairsRead.{IsPairsReading}
 use Rattle.fk_access.proofs.pair_list.read_pairs.Given as goal
 
 abbrev pub invariant-loop-item : goal.invariant-loop-item

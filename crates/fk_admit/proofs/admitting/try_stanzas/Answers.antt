@@ -33,7 +33,7 @@ returns-in-Err-NoMemory-clause-verdict g c =
     let served = served_for (arrival_of c.args.arriving) c.get-stanza.result.now (sym c.if-not-serves.ensures) in
     let within = blocks_within c.args.access.now (arrival_of c.args.arriving) (c.loop-at.at + 1) in
     let some = rw c.in-Err-NoMemory.field-0-is at c.in-Err-NoMemory.ensures.fault in
-    omega arith
+    (c.requires, omega arith)
 
 pub returns-in-Err-NoMemory-clause-most_steps : goal.returns-in-Err-NoMemory-clause-most_steps
 returns-in-Err-NoMemory-clause-most_steps g c =

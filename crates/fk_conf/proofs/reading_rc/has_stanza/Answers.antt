@@ -1,7 +1,7 @@
 use Rattle.std.proofs.Common.{List, ap, ◌∙◌}
 use Rattle.std.specs.List.{list_any}
 use Rattle.std.specs.Str.{bytes_eq}
-use Rattle.fk_conf.specs.RcNames.{names_of}
+use Rattle.fk_conf.specs.RcPrivate.{names_of}
 use Rattle.fk_conf.specs.declared.rc_stanza.RcStanza.{RcStanza}
 use Rattle.fk_conf.proofs.RcSteps.{any_name}
 use Rattle.fk_conf.proofs.reading_rc.has_stanza.Goals as goal

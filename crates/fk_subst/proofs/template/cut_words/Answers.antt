@@ -4,7 +4,7 @@ use Rattle.std.specs.List.{filter, AllZip}
 use Rattle.std.proofs.lemmas.Iterator.Splits.{YieldsList-from_slice_split}
 use Rattle.std.proofs.lemmas.Iterator.Consumers.{YieldsList-turn, YieldsList-end, YieldsList-at}
 use Rattle.std.proofs.lemmas.List.{map-append}
-use Rattle.fk_subst.specs.Template.{Spells}
+use Rattle.fk_subst.specs.Template.{AreWordPieces}
 use Rattle.fk_subst.proofs.Templates.{is_word, known_run, AllZip_push, filter_push_word, filter_push_empty, whole_template}
 use Rattle.fk_subst.proofs.template.cut_words.Goals as goal
 

@@ -2,7 +2,7 @@ use Rattle.std.proofs.Common.{◌≡◌, ℕ, List, [], ◌∷◌, ◌++◌, len
 use Rattle.std.proofs.lemmas.List.{append-nil, nil_from_length}
 use Rattle.std.proofs.lemmas.Bool.{eqb-true}
 use Rattle.fk_subst.specs.declared.piece.Piece.{Piece}
-use Rattle.fk_subst.specs.Template.{Spells}
+use Rattle.fk_subst.specs.Template.{AreWordPieces}
 use Rattle.fk_subst.proofs.Known.{IsKnown-places, known_places}
 use Rattle.fk_subst.proofs.Pieces.{BeginsWith-shorter, known_behind_piece}
 use Rattle.fk_subst.proofs.word.cut_word.Goals as goal
