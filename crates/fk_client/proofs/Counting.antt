@@ -175,6 +175,10 @@ asked-counts : (asked : Command) (moment : ℕ) (old new : Outside) (answer : St
 asked-counts (command.Serve conf access packets turns verbose) moment old new answer runs = absurd runs
 asked-counts (command.Trial conf access quiet verbose) moment old new answer runs = absurd runs
 asked-counts command.List moment old new answer runs = absurd runs
+asked-counts (command.Encode file name) moment old new answer runs = absurd runs
+asked-counts (command.Decode file name) moment old new answer runs = absurd runs
+asked-counts command.Journal moment old new answer runs = absurd runs
+asked-counts (command.Generate count) moment old new answer runs = absurd runs
 asked-counts (command.Send send) moment old new answer runs = send-counts send moment old new answer runs
 asked-counts command.KeyGen moment old new answer runs = keys-counts old new answer (same-files old new runs.0) (same-link old new runs.1) runs.2
 asked-counts command.Help moment old new answer runs =

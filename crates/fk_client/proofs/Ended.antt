@@ -139,6 +139,10 @@ asked-ends command.Version asked moment old new answer alike ready runs calm = p
 asked-ends (command.Serve conf access packets turns verbose) asked moment old new answer alike ready runs calm = absurd runs
 asked-ends (command.Trial conf access quiet verbose) asked moment old new answer alike ready runs calm = absurd runs
 asked-ends command.List asked moment old new answer alike ready runs calm = absurd runs
+asked-ends (command.Encode file name) asked moment old new answer alike ready runs calm = absurd runs
+asked-ends (command.Decode file name) asked moment old new answer alike ready runs calm = absurd runs
+asked-ends command.Journal asked moment old new answer alike ready runs calm = absurd runs
+asked-ends (command.Generate count) asked moment old new answer alike ready runs calm = absurd runs
 
 word-stops : (words : List (List ℕ)) (fault : WordFault) (asked : Command) (wanted answer : Status) → IsWordErr Client words fault → ReadsWords Client words asked
     → answer ≡ fault_status (fault_of_words fault) → EndsAs wanted answer
@@ -216,6 +220,10 @@ no-usage command.Version moment old new answer runs = no-usage-printed runs.1.is
 no-usage (command.Serve conf access packets turns verbose) moment old new answer runs = absurd runs
 no-usage (command.Trial conf access quiet verbose) moment old new answer runs = absurd runs
 no-usage command.List moment old new answer runs = absurd runs
+no-usage (command.Encode file name) moment old new answer runs = absurd runs
+no-usage (command.Decode file name) moment old new answer runs = absurd runs
+no-usage command.Journal moment old new answer runs = absurd runs
+no-usage (command.Generate count) moment old new answer runs = absurd runs
 
 err-of : {T : Type 0} (read : Result T WordFault) (fault : WordFault) → read ≡ Err fault → IsErr read
 err-of (Ok set) fault is = absurd cc
@@ -303,6 +311,10 @@ asked-missing command.Version asked moment old new answer alike missing runs = a
 asked-missing (command.Serve conf access packets turns verbose) asked moment old new answer alike missing runs = absurd runs
 asked-missing (command.Trial conf access quiet verbose) asked moment old new answer alike missing runs = absurd runs
 asked-missing command.List asked moment old new answer alike missing runs = absurd runs
+asked-missing (command.Encode file name) asked moment old new answer alike missing runs = absurd runs
+asked-missing (command.Decode file name) asked moment old new answer alike missing runs = absurd runs
+asked-missing command.Journal asked moment old new answer alike missing runs = absurd runs
+asked-missing (command.Generate count) asked moment old new answer alike missing runs = absurd runs
 
 -- a file that is not held ends a client as a fault of the files
 pub client-missing : (words : List (List ℕ)) (moment : ℕ) (old new : Outside) (answer : Status) → RunsClient words moment old new answer
@@ -327,6 +339,10 @@ asked-wrong command.Version asked moment text old new answer alike held wrong ca
 asked-wrong (command.Serve conf access packets turns verbose) asked moment text old new answer alike held wrong calm runs = absurd runs
 asked-wrong (command.Trial conf access quiet verbose) asked moment text old new answer alike held wrong calm runs = absurd runs
 asked-wrong command.List asked moment text old new answer alike held wrong calm runs = absurd runs
+asked-wrong (command.Encode file name) asked moment text old new answer alike held wrong calm runs = absurd runs
+asked-wrong (command.Decode file name) asked moment text old new answer alike held wrong calm runs = absurd runs
+asked-wrong command.Journal asked moment text old new answer alike held wrong calm runs = absurd runs
+asked-wrong (command.Generate count) asked moment text old new answer alike held wrong calm runs = absurd runs
 
 -- a wrong file ends a client as one
 pub client-wrong : (words : List (List ℕ)) (moment : ℕ) (old new : Outside) (answer : Status) → RunsClient words moment old new answer

@@ -85,6 +85,12 @@ fn run_command<F: Files, N: Entropy, L: Link, K: Sink>(
         Command::KeyGen => make_keys(alloc, entropy, out),
         Command::Help => show_text(HELP, out),
         Command::Version => show_text(VERSION, out),
-        Command::Serve { .. } | Command::Trial { .. } | Command::List => unreachable!(),
+        Command::Serve { .. }
+        | Command::Trial { .. }
+        | Command::List
+        | Command::Encode { .. }
+        | Command::Decode { .. }
+        | Command::Journal
+        | Command::Generate { .. } => unreachable!(),
     }
 }

@@ -30,6 +30,10 @@ runs-end (command.Trial conf access quiet verbose) old new answer runs ready cal
 runs-end command.List old new answer runs ready calm none tells = list-ends old new answer runs calm none ready tells
 runs-end (command.Send send) old new answer runs ready calm none tells = absurd runs
 runs-end command.KeyGen old new answer runs ready calm none tells = absurd runs
+runs-end (command.Encode file name) old new answer runs ready calm none tells = absurd runs
+runs-end (command.Decode file name) old new answer runs ready calm none tells = absurd runs
+runs-end command.Journal old new answer runs ready calm none tells = absurd runs
+runs-end (command.Generate count) old new answer runs ready calm none tells = absurd runs
 runs-end command.Help old new answer runs ready calm none tells = printed-ends runs.is_broken answer runs.answered calm
 runs-end command.Version old new answer runs ready calm none tells = printed-ends runs.is_broken answer runs.answered calm
 

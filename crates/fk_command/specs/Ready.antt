@@ -40,6 +40,10 @@ IsReadyFor (command.Trial conf access quiet verbose) at =
 IsReadyFor command.List at = HoldsSome at.outside.host.told
 IsReadyFor (command.Send send) at = ⊥
 IsReadyFor command.KeyGen at = ⊥
+IsReadyFor (command.Encode file name) at = ⊥
+IsReadyFor (command.Decode file name) at = ⊥
+IsReadyFor command.Journal at = ⊥
+IsReadyFor (command.Generate count) at = ⊥
 IsReadyFor command.Help at = Unit {0}
 IsReadyFor command.Version at = Unit {0}
 

@@ -77,6 +77,10 @@ Runs (command.Trial conf access quiet verbose) old new answer =
 Runs command.List old new answer = Lists old new answer
 Runs (command.Send send) old new answer = ⊥
 Runs command.KeyGen old new answer = ⊥
+Runs (command.Encode file name) old new answer = ⊥
+Runs (command.Decode file name) old new answer = ⊥
+Runs command.Journal old new answer = ⊥
+Runs (command.Generate count) old new answer = ⊥
 Runs command.Help old new answer = PrintsOnly HELP.now old new answer
 Runs command.Version old new answer = PrintsOnly VERSION.now old new answer
 

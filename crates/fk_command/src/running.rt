@@ -109,7 +109,12 @@ fn run_command<F: Files, E: Feed, H: Host, I: Source, K: Sink>(
         Command::List => list_records(alloc, host, out),
         Command::Help => print(HELP, out),
         Command::Version => print(VERSION, out),
-        Command::Send(_) | Command::KeyGen => unreachable!(),
+        Command::Send(_)
+        | Command::KeyGen
+        | Command::Encode { .. }
+        | Command::Decode { .. }
+        | Command::Journal
+        | Command::Generate { .. } => unreachable!(),
     }
 }
 

@@ -18,7 +18,8 @@ use Rattle.fk_conf.specs.ReadsWords.{IsCommand, ReadsWords, limit_of, set_read, 
 use Rattle.fk_conf.specs.WordFaults.{words_fault}
 use Rattle.fk_conf.specs.WordPlaces.{is_only}
 use Rattle.std.specs.Prelude.{codes}
-use Rattle.fk_conf.specs.DaemonCommands.{IsForDaemon, IsLimit}
+use Rattle.fk_conf.specs.Limits.{IsLimit}
+use Rattle.fk_conf.specs.DaemonCommands.{IsForDaemon}
 
 -- a set of this program
 abbrev pub IsDaemonSet : OptionSet → Type 0
@@ -28,6 +29,10 @@ IsDaemonSet sets.List = Unit {0}
 IsDaemonSet sets.SendForAddress = ⊥
 IsDaemonSet sets.SendForSource = ⊥
 IsDaemonSet sets.KeyGen = ⊥
+IsDaemonSet sets.Encode = ⊥
+IsDaemonSet sets.Decode = ⊥
+IsDaemonSet sets.Journal = ⊥
+IsDaemonSet sets.Generate = ⊥
 IsDaemonSet sets.Help = Unit {0}
 IsDaemonSet sets.Version = Unit {0}
 
@@ -49,7 +54,7 @@ chosen false false None false false false set e = absurd cc
 -- the words of this program make a set of it
 pub daemon-set : (words : List (List ℕ)) (set : OptionSet) → set_read Daemon words ≡ Ok set → IsDaemonSet set
 daemon-set words set e =
-    chosen (is_only (codes "--help") words) (is_only (codes "--version") words) (words_fault Daemon [] false words)
+    chosen (is_only (codes "--help") words) (is_only (codes "--version") words) (words_fault Daemon words)
     (fits Daemon words sets.Serve) (fits Daemon words sets.Trial) (fits Daemon words sets.List) set e
 
 least-one : (found : Option ℕ) (n : ℕ) → option_and_then (λ n. if nat_le 1 n then Some n else None) found ≡ Some n → (1 ≤ n) × (found ≡ Some n)
@@ -65,7 +70,7 @@ read-within (Some text) n e =
 
 -- a limit that words give is one
 pub limit-within : (option : CommandOption) (words : List (List ℕ)) (limit : Option ℕ) → limit ≡ limit_of option words
-    → IsLimit limit
+    → IfSome limit IsLimit
 limit-within option words None is = tt
 limit-within option words (Some n) is = read-within (value_of option words) n (sym is)
 
@@ -79,6 +84,10 @@ asks words sets.List _ is says = absurd says
 asks words sets.SendForAddress _ is says = absurd is
 asks words sets.SendForSource _ is says = absurd is
 asks words sets.KeyGen _ is says = absurd is
+asks words sets.Encode _ is says = absurd is
+asks words sets.Decode _ is says = absurd is
+asks words sets.Journal _ is says = absurd is
+asks words sets.Generate _ is says = absurd is
 asks words sets.Help command.Help is says = tt
 asks words sets.Help _ is says = absurd says
 asks words sets.Version command.Version is says = tt
@@ -112,6 +121,10 @@ same-named words sets.List _ _ is one two = absurd one
 same-named words sets.SendForAddress _ _ is one two = absurd is
 same-named words sets.SendForSource _ _ is one two = absurd is
 same-named words sets.KeyGen _ _ is one two = absurd is
+same-named words sets.Encode _ _ is one two = absurd is
+same-named words sets.Decode _ _ is one two = absurd is
+same-named words sets.Journal _ _ is one two = absurd is
+same-named words sets.Generate _ _ is one two = absurd is
 same-named words sets.Help command.Help command.Help is one two = refl
 same-named words sets.Help command.Help _ is one two = absurd two
 same-named words sets.Help _ _ is one two = absurd one

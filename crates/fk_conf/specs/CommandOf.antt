@@ -4,7 +4,7 @@ use Rattle.fk_conf.specs.declared.command.Command.{Command}
 use Rattle.fk_conf.specs.declared.command.Command.TheVariants as command
 use Rattle.fk_conf.specs.declared.command.SendWords.{SendWords}
 use Rattle.fk_conf.specs.declared.tool.Tool.{Tool}
-use Rattle.fk_conf.specs.declared.tool.Tool.TheVariants.{Daemon, Client}
+use Rattle.fk_conf.specs.declared.tool.Tool.TheVariants.{Daemon, Client, Fko}
 
 -- a program has the commands of its own, and each the help and the version
 abbrev pub IsCommandOf : Tool → Command → Type 0
@@ -13,11 +13,28 @@ IsCommandOf Daemon (command.Trial conf access quiet verbose) = Unit {0}
 IsCommandOf Daemon command.List = Unit {0}
 IsCommandOf Daemon (command.Send send) = ⊥
 IsCommandOf Daemon command.KeyGen = ⊥
+IsCommandOf Daemon (command.Encode file name) = ⊥
+IsCommandOf Daemon (command.Decode file name) = ⊥
+IsCommandOf Daemon command.Journal = ⊥
+IsCommandOf Daemon (command.Generate count) = ⊥
 IsCommandOf Client (command.Serve conf access packets turns verbose) = ⊥
 IsCommandOf Client (command.Trial conf access quiet verbose) = ⊥
 IsCommandOf Client command.List = ⊥
 IsCommandOf Client (command.Send send) = Unit {0}
 IsCommandOf Client command.KeyGen = Unit {0}
+IsCommandOf Client (command.Encode file name) = ⊥
+IsCommandOf Client (command.Decode file name) = ⊥
+IsCommandOf Client command.Journal = ⊥
+IsCommandOf Client (command.Generate count) = ⊥
+IsCommandOf Fko (command.Serve conf access packets turns verbose) = ⊥
+IsCommandOf Fko (command.Trial conf access quiet verbose) = ⊥
+IsCommandOf Fko command.List = ⊥
+IsCommandOf Fko (command.Send send) = ⊥
+IsCommandOf Fko command.KeyGen = Unit {0}
+IsCommandOf Fko (command.Encode file name) = Unit {0}
+IsCommandOf Fko (command.Decode file name) = Unit {0}
+IsCommandOf Fko command.Journal = Unit {0}
+IsCommandOf Fko (command.Generate count) = Unit {0}
 IsCommandOf tool command.Help = Unit {0}
 IsCommandOf tool command.Version = Unit {0}
 
