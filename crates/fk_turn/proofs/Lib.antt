@@ -8,5 +8,4 @@ pub mod Assembly
 pub mod Parting
 pub mod Opening
 pub mod Closing
-pub mod Granting
 pub mod Starting
