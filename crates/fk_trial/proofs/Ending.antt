@@ -1,10 +1,7 @@
 -- A trial, whole with its first and its last line.
-use Rattle.std.proofs.Common.{◌≡◌, ◌⊎◌, ℕ, ◌+◌, ◌<◌, ◌≤◌, ◌&&◌, not, Bool, true, false, List, [], ◌∷◌, ◌++◌, length, map, Option, Some, None, refl, sym, ap, ◌∙◌, subst, inl, inr, arith}
-use Rattle.std.specs.List.{flat_map, AllPairs}
+use Rattle.std.proofs.Common.{◌≡◌, ◌⊎◌, ℕ, ◌+◌, ◌&&◌, not, Bool, true, false, List, [], ◌∷◌, ◌++◌, length, Option, Some, None, refl, sym, ap, ◌∙◌, subst, inl, inr, arith}
 use Rattle.fk_base.specs.declared.status.Status.{Status}
 use Rattle.fk_base.specs.declared.status.Status.TheVariants as status
-use Rattle.fk_trace.specs.declared.change.Change.{Change}
-use Rattle.fk_trace.specs.Trace.{Child}
 use Rattle.fk_trace.specs.Ledger.{live}
 use Rattle.fk_run.specs.Place.{entry}
 use Rattle.fk_run.specs.Turn.{TakenTurn}
@@ -33,8 +30,8 @@ use Rattle.fk_trial.specs.declared.session.Stop.{Stop}
 use Rattle.fk_trial.specs.declared.session.Stop.TheVariants as stop
 use Rattle.fk_trial.specs.declared.task.TrialTask.{TrialTask}
 use Rattle.fk_trial.specs.Streams.{SourceView, Streams}
-use Rattle.fk_trial.specs.Trial.{IsTrial, HasTurns, HasStatus, Tries}
-use Rattle.fk_trial.specs.Sessions.{Standing, Begins, HoldsPages, MayEnd, MaySumUp, SaysLast, SumsUp, Stopped, HasInputCause, EndsSo, ending_of, run_of, last_lines, summary_by, printing, printing_of}
+use Rattle.fk_trial.specs.Trial.{HasTurns, HasStatus, Tries}
+use Rattle.fk_trial.specs.Sessions.{Standing, Begins, HoldsPages, MayEnd, MaySumUp, SaysLast, SumsUp, Stopped, HasInputCause, EndsSo, ending_of, run_of, last_lines, summary_by, printing}
 use Rattle.fk_trial.proofs.Behind.{changes_in}
 use Rattle.fk_trial.proofs.Serving.{other-outputs}
 

@@ -1,5 +1,5 @@
 -- What a call of a trial's host leaves of it.
-use Rattle.std.proofs.Common.{◌≡◌, ℕ, Bool, true, false, IsTrue, List, [], ◌∷◌, ◌++◌, Option, Some, None, Result, Ok, Err, refl, sym, ap, ◌∙◌, subst, append-nil}
+use Rattle.std.proofs.Common.{◌≡◌, ℕ, Bool, false, IsTrue, List, [], ◌∷◌, ◌++◌, Option, Some, None, Result, Ok, Err, refl, sym, ap, ◌∙◌, subst, append-nil}
 use Rattle.fk_base.specs.declared.memory.Failed.{Failed}
 use Rattle.fk_base.specs.declared.purpose.Purpose.{Purpose}
 use Rattle.fk_trace.specs.Trace.{Event, Item}

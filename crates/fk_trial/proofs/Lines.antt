@@ -1,12 +1,12 @@
 -- What comes of a line that was read.
-use Rattle.std.proofs.Common.{◌≡◌, ℕ, ◌+◌, ◌<◌, Bool, true, false, not, ◌&&◌, List, [], ◌∷◌, ◌++◌, Option, Some, None, IfNone, Result, refl, sym, ap, ◌∙◌, subst, arith}
+use Rattle.std.proofs.Common.{◌≡◌, ℕ, ◌<◌, Bool, true, false, not, ◌&&◌, List, [], Option, Some, None, IfNone, Result, refl, sym, ap, ◌∙◌, subst}
 use Rattle.fk_trace.specs.Decision.{FeedTurn}
 use Rattle.fk_run.specs.Place.{Place, entry}
 use Rattle.fk_run.specs.Turn.{TakenTurn, after_turns}
 use Rattle.fk_host.specs.Stock.{Stock}
 use Rattle.fk_input.specs.Reading.{Reading, IsBounded, rest, TakesLine}
 use Rattle.fk_log.specs.Printing.{SinkView}
-use Rattle.fk_log.specs.Writing.{LogState, Output, output}
+use Rattle.fk_log.specs.Writing.{output}
 use Rattle.fk_turn.specs.declared.policy.Policy.{Policy}
 use Rattle.fk_turn.specs.declared.turn_err.TurnErr.{TurnErr}
 use Rattle.fk_turn.specs.Daemon.{scene}

@@ -1,11 +1,9 @@
 -- Two trials that took the same turns have the same events and the same log.
-use Rattle.std.proofs.Common.{◌≡◌, ℕ, ◌+◌, List, [], ◌∷◌, ◌++◌, length, map, Option, Some, None, refl, sym, ap, ◌∙◌, subst}
+use Rattle.std.proofs.Common.{◌≡◌, ℕ, List, [], ◌∷◌, ◌++◌, length, map, Option, Some, None, refl, sym, ap, ◌∙◌, subst}
 use Rattle.fk_trace.specs.declared.change.Change.{Change}
-use Rattle.fk_trace.specs.Trace.{Item}
 use Rattle.fk_trace.specs.Ledger.{after, live}
 use Rattle.fk_trace.specs.Decision.{FeedTurn, Rules}
 use Rattle.fk_run.specs.Place.{entry}
-use Rattle.fk_run.specs.Turn.{TakenTurn}
 use Rattle.fk_run.specs.Run.{Run, Ending, turns_of, trace_of}
 use Rattle.fk_run.specs.Run.Ending.{AtLimit, AtEnd, AtFeedFault, AtDiskFault, AtWantOfMemory, AtBadLine, AtLongInput, AtReadFault}
 use Rattle.fk_run.specs.Legal.{LegalTurns}

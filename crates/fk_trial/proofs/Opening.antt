@@ -1,5 +1,5 @@
 -- A daemon that was resumed over a new host stands at the entry of a run.
-use Rattle.std.proofs.Common.{◌≡◌, ℕ, true, false, List, [], refl, sym, ap, ◌∙◌, subst, inl, arith}
+use Rattle.std.proofs.Common.{◌≡◌, false, List, [], refl, ap, ◌∙◌, subst, inl, arith}
 use Rattle.fk_trace.specs.declared.change.Change.{Change}
 use Rattle.fk_run.specs.Place.{entry}
 use Rattle.fk_host.specs.Disk.{Areas, Above, IfTold}

@@ -1,15 +1,14 @@
 -- Two lists of whole turns that brought the same, one after another, and went well, are alike and have the same lines.
-use Rattle.std.proofs.Common.{◌≡◌, ℕ, ◌+◌, List, [], ◌∷◌, ◌++◌, length, map, refl, sym, ap, ◌∙◌, subst, inl, inr}
+use Rattle.std.proofs.Common.{◌≡◌, ℕ, List, [], ◌∷◌, ◌++◌, length, map, refl, sym, ap, ◌∙◌, subst, inl, inr}
 use Rattle.std.specs.List.{flat_map}
 use Rattle.std.proofs.lemmas.List.{length-map}
 use Rattle.fk_trace.specs.declared.change.Change.{Change}
 use Rattle.fk_trace.specs.declared.change.Change.TheVariants.{Done}
 use Rattle.fk_trace.specs.Trace.{Item}
-use Rattle.fk_trace.specs.Ledger.{after, dones, live}
+use Rattle.fk_trace.specs.Ledger.{after, dones}
 use Rattle.fk_trace.specs.Decision.{FeedTurn, Rules, answer}
 use Rattle.fk_run.specs.Place.{Place}
 use Rattle.fk_run.specs.Turn.{TakenTurn, WholeTurn, after_turn}
-use Rattle.fk_run.specs.Run.{Ending}
 use Rattle.fk_run.specs.Run.Ending.{AtEnd}
 use Rattle.fk_run.specs.Legal.{LegalTurns}
 use Rattle.fk_log.specs.Line.{Line}

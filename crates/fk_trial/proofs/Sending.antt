@@ -1,12 +1,11 @@
 -- A text that goes to an output.
-use Rattle.std.proofs.Common.{◌≡◌, ℕ, ◌<◌, Bool, true, false, List, [], length, take, drop, Option, Result, Ok, Err, OnOk, OnErr, refl, sym, ap, ◌∙◌, subst, arith}
+use Rattle.std.proofs.Common.{◌≡◌, ℕ, ◌<◌, Bool, true, false, List, [], length, take, drop, Result, Ok, Err, OnOk, OnErr, refl, sym, ap, subst, arith}
 use Rattle.std.specs.Result.{is_err}
 use Rattle.std.proofs.lemmas.List.{take-append-drop, length-drop}
 use Rattle.fk_base.specs.declared.memory.Failed.{Failed}
 use Rattle.fk_host.specs.Count.{HasCause}
 use Rattle.fk_host.specs.Stream.{Gives}
 use Rattle.fk_log.specs.Printing.{SinkView}
-use Rattle.fk_log.specs.Writing.{Writes, output}
 use Rattle.fk_trial.specs.Sessions.{Sends}
 
 -- behind a write that failed nothing is written

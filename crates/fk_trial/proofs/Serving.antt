@@ -1,10 +1,9 @@
 -- A turn that the daemon served over a page, and then the page printed.
-use Rattle.std.proofs.Common.{◌≡◌, ℕ, ◌+◌, Bool, true, false, cond, List, [], ◌∷◌, ◌++◌, length, Option, Some, None, refl, sym, ap, ◌∙◌, subst}
-use Rattle.std.specs.List.{AllByRecursion}
+use Rattle.std.proofs.Common.{◌≡◌, ℕ, ◌+◌, Bool, true, false, cond, List, [], ◌++◌, length, Option, Some, None, refl, sym, ap, ◌∙◌, subst}
 use Rattle.fk_trace.specs.Trace.{Item}
 use Rattle.fk_trace.specs.Decision.{FeedTurn}
 use Rattle.fk_run.specs.Place.{Place}
-use Rattle.fk_run.specs.Turn.{TakenTurn, after_turn}
+use Rattle.fk_run.specs.Turn.{after_turn}
 use Rattle.fk_host.specs.Disk.{Told as TellsOf, IfTold}
 use Rattle.fk_host.specs.Count.{counted}
 use Rattle.fk_host.specs.Stream.{Gives}
@@ -15,7 +14,7 @@ use Rattle.fk_log.specs.Log.{turn_lines}
 use Rattle.fk_log.specs.Log.RefusalLine.{Told}
 use Rattle.fk_log.specs.Printing.{SinkView}
 use Rattle.fk_log.specs.Shown.{shown_text}
-use Rattle.fk_log.specs.Writing.{GivesPart, LogState, Output, Writes, Logs, output}
+use Rattle.fk_log.specs.Writing.{GivesPart, LogState, Output, Writes, output}
 use Rattle.fk_ledger.specs.Book.{live_ids}
 use Rattle.fk_conf.specs.declared.conf.Conf.{Conf}
 use Rattle.fk_child.specs.View.{AddsItems}
@@ -24,7 +23,6 @@ use Rattle.fk_turn.specs.Daemon.{DaemonState, Scene, AtRest, scene}
 use Rattle.fk_turn.specs.Rules.{rules_by}
 use Rattle.fk_turn.specs.Serving.{ServesWhole, OwesItsLive}
 use Rattle.fk_trial.specs.declared.session.Session.{Session}
-use Rattle.fk_trial.specs.declared.session.Stop.{Stop}
 use Rattle.fk_trial.specs.Replay.{no_children, AreAnswers, IsReplay}
 use Rattle.fk_trial.specs.Trace.{IsTrialTrace}
 use Rattle.fk_trial.specs.Sessions.{RestsAt, HoldsPages, PrintsPage, ServesTurn, view, printing}

@@ -1,9 +1,9 @@
 -- A session that serves no further line.
-use Rattle.std.proofs.Common.{◌≡◌, ◌⊎◌, ℕ, ◌+◌, ◌<◌, ◌≤◌, Bool, true, false, List, [], ◌∷◌, ◌++◌, length, map, Option, Some, None, Result, Ok, Err, refl, sym, ap, ◌∙◌, subst, arith}
+use Rattle.std.proofs.Common.{◌≡◌, ℕ, ◌+◌, ◌<◌, Bool, List, [], length, map, Result, Ok, Err, refl, sym, ap, ◌∙◌, subst, arith}
 use Rattle.std.specs.List.{AllPairs}
 use Rattle.std.proofs.lemmas.List.{length-map}
 use Rattle.fk_trace.specs.declared.change.Change.{Change}
-use Rattle.fk_trace.specs.Trace.{Item, Child, children, past_after}
+use Rattle.fk_trace.specs.Trace.{Item, Child, children}
 use Rattle.fk_trace.specs.Ledger.{live}
 use Rattle.fk_trace.specs.Decision.{FeedTurn}
 use Rattle.fk_run.specs.Place.{entry}
@@ -15,11 +15,9 @@ use Rattle.fk_host.specs.Stream.{Takes}
 use Rattle.fk_input.specs.Lines.{input_limit}
 use Rattle.fk_input.specs.Reading.{Reading, IsBounded, rest, TakesLine, FindsEnd, TakesLongLine, PassesLimit, BreaksOff}
 use Rattle.fk_input.proofs.Progress.{Reads-bad_line, Reads-long_line, Reads-limit, Reads-broken}
-use Rattle.fk_log.specs.Line.{Line}
 use Rattle.fk_log.specs.Log.{lines_of_turns}
 use Rattle.fk_log.specs.Log.RefusalLine.{Told}
 use Rattle.fk_log.specs.Printing.{SinkView}
-use Rattle.fk_log.specs.Shown.{shown_text}
 use Rattle.fk_log.specs.Writing.{Output, Writes}
 use Rattle.fk_turn.specs.declared.policy.Policy.{Policy}
 use Rattle.fk_turn.specs.declared.turn_err.TurnErr.{TurnErr}
@@ -35,7 +33,7 @@ use Rattle.fk_trial.specs.Lines.{IsTurnLine}
 use Rattle.fk_trial.specs.Streams.{SourceView, TakesAtMost}
 use Rattle.fk_trial.specs.Trace.{IsTrialTrace}
 use Rattle.fk_trial.specs.Trial.{IsTrial, HasTurns}
-use Rattle.fk_trial.specs.Sessions.{Standing, Served, Going, HasInputCause, MaySumUp, SumsUp, Stopped, StopsServing, ServesLine, ending_of, run_of, items_in, printing, printing_of}
+use Rattle.fk_trial.specs.Sessions.{Standing, Served, Going, HasInputCause, MaySumUp, SumsUp, Stopped, StopsServing, ending_of, run_of, printing, printing_of}
 use Rattle.fk_trial.proofs.Behind.{ledger-behind, legal-whole}
 use Rattle.fk_trial.proofs.Reading.{turns-end, front-so_far, takes-bounded}
 use Rattle.fk_trial.proofs.Serving.{rests-parks, other-outputs}

@@ -1,5 +1,5 @@
 -- What the trace of a host in memory says where nothing is scripted: each answer is the one that its children give at that place.
-use Rattle.std.specs.Prelude.{◌≡◌, ℕ, false, IsTrue, List, [], ◌∷◌, Option, Some, None, Ok, Err}
+use Rattle.std.specs.Prelude.{◌≡◌, false, IsTrue, List, [], ◌∷◌, Some, None, Ok, Err}
 use Rattle.fk_trace.specs.Trace.{Event, Item}
 use Rattle.fk_trace.specs.Trace.Event.{Turn, Began, StartFailed, Ended, Runs, PollFailed}
 use Rattle.fk_host.specs.declared.host.StartErr.TheVariants.{Failed as NotStarted}

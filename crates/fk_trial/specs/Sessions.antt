@@ -1,5 +1,5 @@
 -- What the contracts of this crate's private functions speak of. No public contract cites it, so no caller has to believe it.
-use Rattle.std.specs.Prelude.{◌≡◌, ℕ, ◌+◌, ◌<◌, ◌≤◌, ◌^◌, Bool, true, false, List, [], ◌∷◌, ◌++◌, length, map, Option, Some, None}
+use Rattle.std.specs.Prelude.{◌≡◌, ℕ, ◌+◌, ◌<◌, ◌≤◌, ◌^◌, Bool, false, List, [], ◌∷◌, ◌++◌, length, map, Option, Some, None}
 use Rattle.std.specs.List.{AllByRecursion, flat_map}
 use Rattle.fk_base.specs.declared.status.Status.{Status}
 use Rattle.fk_trace.specs.Trace.{Item}
@@ -13,10 +13,8 @@ use Rattle.fk_run.specs.Legal.{LegalTurns}
 use Rattle.fk_host.specs.Count.{counted}
 use Rattle.fk_host.specs.Medium.{Memory, told_of, leaves_of, above_of}
 use Rattle.fk_input.specs.Lines.{input_limit}
-use Rattle.fk_input.specs.Reading.{Reading, rest}
+use Rattle.fk_input.specs.Reading.{rest}
 use Rattle.fk_input.specs.Progress.{HasRead}
-use Rattle.fk_log.specs.declared.tally.Tally.{Tally}
-use Rattle.fk_log.specs.declared.verbosity.Verbosity.{Verbosity}
 use Rattle.fk_log.specs.Line.{Line}
 use Rattle.fk_log.specs.Line.Line.{SummaryLine}
 use Rattle.fk_log.specs.Log.{ending_lines, lines_of_turns, turn_lines}
@@ -28,7 +26,7 @@ use Rattle.fk_log.specs.Writing.{LogState, Output, Writes, Logs, output}
 use Rattle.fk_conf.specs.declared.conf.Conf.{Conf}
 use Rattle.fk_child.specs.View.{View}
 use Rattle.fk_turn.specs.declared.policy.Policy.{Policy}
-use Rattle.fk_turn.specs.Daemon.{DaemonState, AtRest, Rests, scene}
+use Rattle.fk_turn.specs.Daemon.{DaemonState, AtRest, scene}
 use Rattle.fk_turn.specs.Rules.{rules_by}
 use Rattle.fk_turn.specs.Serving.{OwesItsLive}
 use Rattle.fk_trial.specs.declared.session.Session.{Session}

@@ -1,4 +1,3 @@
-use Rattle.std.proofs.Common.{sym}
 use Rattle.fk_log.specs.Printing.{sink_by}
 use Rattle.fk_trial.proofs.Sending.{sent-broken, sent}
 use Rattle.fk_trial.proofs.session.send.Goals as goal

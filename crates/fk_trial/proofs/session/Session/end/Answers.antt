@@ -1,4 +1,3 @@
-use Rattle.std.proofs.Common.{ap}
 use Rattle.fk_log.specs.Printing.{sink_by}
 use Rattle.fk_trial.proofs.Ending.{ended}
 use Rattle.fk_trial.proofs.session.Session.end.Goals as goal

@@ -1,4 +1,4 @@
-use Rattle.std.proofs.Common.{refl, sym, ◌∙◌}
+use Rattle.std.proofs.Common.{sym, ◌∙◌}
 use Rattle.fk_log.specs.Printing.{sink_by}
 use Rattle.fk_trial.proofs.Ending.{said-last, unsaid-last}
 use Rattle.fk_trial.proofs.session.Session.say_last.Goals as goal

@@ -1,4 +1,4 @@
-use Rattle.std.proofs.Common.{ℕ, ◌+◌, ◌<◌, ◌≤◌, ◌++◌, ◌∷◌, [], arith}
+use Rattle.std.proofs.Common.{◌<◌, ◌≤◌, ◌++◌, ◌∷◌, [], arith}
 use Rattle.fk_input.specs.Lines.{input_limit}
 use Rattle.fk_trial.proofs.session.Session.serve_lines.Goals as goal
 

@@ -1,4 +1,4 @@
-use Rattle.std.proofs.Common.{◌≡◌, false, [], Option, Some, refl, sym, ap, ◌∙◌, subst}
+use Rattle.std.proofs.Common.{◌≡◌, false, Option, Some, refl, sym, ap, ◌∙◌, subst}
 use Rattle.fk_host.specs.Stock.{Stock}
 use Rattle.fk_log.specs.Printing.{sink_by}
 use Rattle.fk_log.specs.Writing.{output}

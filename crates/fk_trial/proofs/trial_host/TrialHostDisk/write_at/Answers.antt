@@ -1,4 +1,4 @@
-use Rattle.std.proofs.Common.{◌+◌, List, ◌++◌, length, take, drop, subst}
+use Rattle.std.proofs.Common.{length, subst}
 use Rattle.std.specs.Prelude.{OnOk}
 use Rattle.fk_host.specs.Disk.{Written, Torn, InArea, Calls}
 use Rattle.fk_host.specs.Medium.{Memory, told_of, leaves_of}
