@@ -1,7 +1,7 @@
 //! Whole runs of the program, over objects in memory.
 use crate::fwknopd_run;
 use crate::help::HELP;
-use fk_base::{Ip4, Moment, NoMemory, Parts, Status, Words};
+use fk_base::{Ip4, Moment, NoMemory, Status, Words};
 use fk_host::{MemFeed, MemFiles, MemHost, MemSink, MemSource};
 use std::alloc::Global;
 use std::process::Abort;
@@ -65,8 +65,7 @@ fn words_of(alloc: Global, text: &[u8]) -> Result<Words, NoMemory> {
     if text.is_empty() {
         return Ok(words);
     }
-    let mut parts = Parts::new(text, b' ');
-    while let Some(word) = parts.next() {
+    for word in text.split(|byte| *byte == b' ') {
         words.push(word)?;
     }
     Ok(words)
@@ -410,10 +409,10 @@ fn lines_are_tried(rt: HostRuntime) -> Result<(), Fail> {
 // A terminal of 24 lines of 80 columns shows all of it.
 #[test]
 fn help_fits_a_terminal(rt: HostRuntime) -> Result<(), Fail> {
-    let mut lines = 0;
+    let mut lines = 0usize;
     for line in HELP.split(|byte| *byte == b'\n') {
         assert!(rt; line.len() <= 80);
-        lines += 1;
+        lines = lines.saturating_add(1);
     }
     assert!(rt; lines <= 24);
     prints(&rt, rt.alloc(), &script_of(b"--help"), Status::Done, HELP)?;
