@@ -4,7 +4,7 @@ use Rattle.fk_base.specs.declared.status.Status.{Status}
 use Rattle.fk_run.specs.declared.limits.Limits.{Limits}
 use Rattle.fk_log.specs.declared.verbosity.Verbosity.{Verbosity}
 use Rattle.fk_conf.specs.declared.command.Command.TheVariants as command
-use Rattle.fk_conf.specs.DaemonCommands.{IsLimit}
+use Rattle.fk_conf.specs.Limits.{IsLimit}
 use Rattle.fk_daemon.specs.Account.{AreLimits}
 use Rattle.fk_conf.specs.declared.conf.Conf.{Conf}
 use Rattle.fk_access.specs.declared.stanza.Stanza.{Stanza}
@@ -17,16 +17,16 @@ use Rattle.fk_command.specs.Files.{Names, ReadsFiles}
 use Rattle.fk_command.specs.Private.{served_in}
 use Rattle.fk_command.specs.Running.{RefusesFiles, Runs, ServesByFiles, serving_verbosity}
 
-few : (limit : Option ℕ) → IsLimit limit → IfSome limit (λ most. (1 ≤ most) × (most ≤ 9223372036854775807))
+few : (limit : Option ℕ) → IfSome limit IsLimit → IfSome limit (λ most. (1 ≤ most) × (most ≤ 9223372036854775807))
 few None within = tt
-few (Some n) within = let least = within.0 in let most = within.1 in (least, omega arith)
+few (Some n) within = let least = within.0 in let most : n ≤ 1000000000 = within.1 in (least, omega arith)
 
-above : (limit : Option ℕ) → IsLimit limit → IfSome limit (λ most. 1 ≤ most)
+above : (limit : Option ℕ) → IfSome limit IsLimit → IfSome limit (λ most. 1 ≤ most)
 above None within = tt
 above (Some n) within = within.0
 
 -- the limits that words give are ones that a run may have
-pub limits-are : (packets turns : Option ℕ) → IsLimit packets → IsLimit turns → AreLimits (record { packets = packets; turns = turns })
+pub limits-are : (packets turns : Option ℕ) → IfSome packets IsLimit → IfSome turns IsLimit → AreLimits (record { packets = packets; turns = turns })
 limits-are packets turns few_packets few_turns = record { packets = above packets few_packets; turns = few turns few_turns }
 
 -- served by files of these names, or their fault told

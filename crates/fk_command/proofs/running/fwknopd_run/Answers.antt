@@ -11,7 +11,7 @@ use Rattle.fk_command.proofs.Complete.{run-ends-well}
 use Rattle.fk_command.proofs.running.fwknopd_run.Goals as goal
 
 pub run_command-requires : goal.run_command-requires
-run_command-requires g c = c.daemon_words_ask_for_one_command.ensures.own c.args.words.now c.in-Ok.command c.in-Ok.ensures
+run_command-requires g c = c.daemon_words_ask_for_one_command.ensures.own c.args.words.now c.in-Ok.command c.in-Ok.ensures.command
 
 pub returns-in-Ok : goal.returns-in-Ok
 returns-in-Ok g c =
@@ -21,7 +21,7 @@ returns-in-Ok g c =
     let before = at c.args.files.now c.args.feed.now c.args.host.now c.args.input.now c.args.out.now in
     let after = at c.run_command.new.files c.run_command.new.feed c.run_command.new.host c.run_command.new.input c.run_command.new.out in
     let runs : RunsWords c.args.words.now before after c.run_command.result =
-    inl (record { command = c.in-Ok.command; reads = c.in-Ok.ensures; runs = c.run_command.ensures.runs }) in
+    inl (record { command = c.in-Ok.command; reads = c.in-Ok.ensures.command; runs = c.run_command.ensures.runs }) in
     record {
       runs = runs;
       counts = c.run_command.ensures.counts;
@@ -40,7 +40,7 @@ returns-in-Err g c =
     let refuses : RefusesWords c.args.words.now before after c.refuse.result =
     record {
       fault = c.in-Err.fault;
-      why = c.in-Err.ensures;
+      why = c.in-Err.ensures.command;
       files = refl;
       rest = record { feed = refl; host = same-host (view c.args.host.now); input = refl };
       tells = subst (λ (fault : Fault). Tells fault (sink c.args.out.now) (sink c.refuse.new.out) c.refuse.result) c.refusal_of_words.ensures c.refuse.ensures;
