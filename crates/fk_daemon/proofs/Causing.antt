@@ -7,9 +7,10 @@ use Rattle.fk_run.specs.Run.Ending.{AtLimit, AtEnd, AtFeedFault, AtDiskFault, At
 use Rattle.fk_host.specs.Count.{counted}
 use Rattle.fk_log.specs.declared.verbosity.Verbosity.{Verbosity}
 use Rattle.fk_daemon.specs.declared.task.Task.{Task}
-use Rattle.fk_daemon.specs.Outside.{FeedView, SinkView, Outside, Prints}
+use Rattle.fk_log.specs.Printing.{SinkView, Prints}
+use Rattle.fk_daemon.specs.Outside.{FeedView, Outside}
 use Rattle.fk_daemon.specs.Serving.{HasStatus, HasCauses, Serves, SaysWhyUnopened}
-use Rattle.fk_daemon.specs.Causes.{FailsOnlyAs, FailsSink}
+use Rattle.fk_log.specs.Causes.{FailsOnlyAs, FailsSink}
 
 -- what a run's ending and its answer say of the three counts
 pub record Counts (answer : Status) (old new : Outside) : Type 0 where

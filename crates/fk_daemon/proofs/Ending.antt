@@ -25,7 +25,8 @@ use Rattle.fk_daemon.specs.declared.task.Task.{Task}
 use Rattle.fk_daemon.specs.declared.session.Session.{Session}
 use Rattle.fk_daemon.specs.declared.session.Stop.{Stop}
 use Rattle.fk_daemon.specs.declared.session.Stop.TheVariants as stop
-use Rattle.fk_daemon.specs.Outside.{SinkView, Outside, Prints}
+use Rattle.fk_log.specs.Printing.{SinkView, Prints}
+use Rattle.fk_daemon.specs.Outside.{Outside}
 use Rattle.fk_daemon.specs.Account.{tried_changes, is_whole}
 use Rattle.fk_daemon.specs.Moments.{RunMoments}
 use Rattle.fk_daemon.specs.Serving.{HasStatus, HasCauses, ServesRun, OpensInVain, OpensNoLedger, SaysWhyUnopened}

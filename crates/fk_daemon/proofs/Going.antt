@@ -29,7 +29,8 @@ use Rattle.fk_turn.specs.Daemon.{Scene, AtRest}
 use Rattle.fk_turn.specs.Rules.{rules_by}
 use Rattle.fk_daemon.specs.declared.task.Task.{Task}
 use Rattle.fk_daemon.specs.declared.session.Session.{Session}
-use Rattle.fk_daemon.specs.Outside.{FeedView, SinkView, Feeds}
+use Rattle.fk_log.specs.Printing.{SinkView}
+use Rattle.fk_daemon.specs.Outside.{FeedView, Feeds}
 use Rattle.fk_daemon.specs.Sessions.{Standing, Begins, Takes, TakesNone, ServesNext, is_over, output_of, scene_of}
 use Rattle.fk_daemon.proofs.Behind.{items_in, changes_in, items-push, changes-push, place-push, ledger-behind, packets-push, legal-push, feeds-then, cases-push}
 

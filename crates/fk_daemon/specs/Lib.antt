@@ -2,5 +2,4 @@ pub mod Outside
 pub mod Account
 pub mod Moments
 pub mod Serving
-pub mod Causes
 pub mod Sessions

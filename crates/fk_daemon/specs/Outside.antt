@@ -1,12 +1,10 @@
 -- What the feed, the host and the output of a serving run say of themselves.
-use Rattle.std.specs.Prelude.{◌≡◌, ℕ, Bool, true, false, List, ◌++◌, Option, Some, IfSome}
+use Rattle.std.specs.Prelude.{◌≡◌, ℕ, Bool, List, ◌++◌, Option, Some, IfSome}
 use Rattle.fk_trace.specs.Decision.{FeedTurn}
-use Rattle.fk_host.specs.Count.{counted}
 use Rattle.fk_host.specs.Feed.{Given}
-use Rattle.fk_host.specs.Stream.{Gives}
 use Rattle.fk_log.specs.Log.{Opening}
 use Rattle.fk_log.specs.Log.Opening.{Opened, Unopened}
-use Rattle.fk_log.specs.Writing.{GivesPart}
+use Rattle.fk_log.specs.Printing.{SinkView}
 use Rattle.fk_child.specs.View.{View}
 
 pub record FeedView : Type 0 where
@@ -16,11 +14,6 @@ pub record FeedView : Type 0 where
   -- its last call has answered that no turn comes any more
   pub has_ended : Bool
 
-pub record SinkView : Type 0 where
-  -- the bytes that it has taken, where it tells
-  pub written : Option (List ℕ)
-  pub faults : ℕ
-
 pub record Outside : Type 1 where
   pub feed : FeedView
   pub host : View
@@ -29,17 +22,9 @@ pub record Outside : Type 1 where
 abbrev pub feed_by : {E : Type 0} → (E → Option Given) → (E → ℕ) → (E → Bool) → E → FeedView
 feed_by told faults has_ended feed = record { given = told feed; faults = faults feed; has_ended = has_ended feed }
 
-abbrev pub sink_by : {K : Type 0} → (K → Option (List ℕ)) → (K → ℕ) → K → SinkView
-sink_by written faults sink = record { written = written sink; faults = faults sink }
-
 -- the three together, of the objects by what they mean
 abbrev pub outside_by : {E H K : Type 0} → (E → FeedView) → (H → View) → (K → SinkView) → E → H → K → Outside
 outside_by feed_view host_view sink_view feed host sink = record { feed = feed_view feed; host = host_view host; sink = sink_view sink }
-
--- The text was printed; or a front of it that lacks something was, and then a write failed, once. The Bool says which.
-abbrev pub Prints : List ℕ → Bool → SinkView → SinkView → Type 0
-Prints text false old new = Gives text old.written new.written × (new.faults ≡ old.faults)
-Prints text true old new = GivesPart text old.written new.written × (new.faults ≡ counted old.faults)
 
 -- The feed was opened at this port and then gave these turns, or it was not opened. One that doesn't tell claims nothing.
 abbrev pub Feeds : Opening → ℕ → List FeedTurn → Option Given → Option Given → Type 0

@@ -15,7 +15,8 @@ use Rattle.fk_child.specs.View.{View, AddsItems}
 use Rattle.fk_ledger.specs.Holds.{HoldsLedger, IsLedgerDamagedAt}
 use Rattle.fk_ledger.specs.Stretch.{IsLedgerOpening}
 use Rattle.fk_daemon.specs.declared.task.Task.{Task}
-use Rattle.fk_daemon.specs.Outside.{Outside, Prints, Feeds}
+use Rattle.fk_log.specs.Printing.{Prints}
+use Rattle.fk_daemon.specs.Outside.{Outside, Feeds}
 use Rattle.fk_daemon.specs.Account.{Account, IsServing, tried_changes, is_whole}
 use Rattle.fk_daemon.specs.Moments.{RunMoments}
 

@@ -38,7 +38,8 @@ use Rattle.fk_daemon.specs.declared.task.Task.{Task}
 use Rattle.fk_daemon.specs.declared.session.Session.{Session}
 use Rattle.fk_daemon.specs.declared.session.Stop.{Stop}
 use Rattle.fk_daemon.specs.declared.session.Stop.TheVariants as stop
-use Rattle.fk_daemon.specs.Outside.{SinkView, Outside, Prints, Feeds}
+use Rattle.fk_log.specs.Printing.{SinkView, Prints}
+use Rattle.fk_daemon.specs.Outside.{Outside, Feeds}
 use Rattle.fk_daemon.specs.Account.{Account, IsServing, tried_changes, is_whole}
 use Rattle.fk_daemon.specs.Serving.{HasStatus, HasCauses}
 

@@ -1,7 +1,7 @@
 //! The ledger is opened and a daemon resumed over it, or the fault is told.
 ghost use Rattle.std.specs.Prelude.{◌≡◌, ◌∷◌, [], IfOk, IfErr};
 ghost use Rattle.fk_child.specs.View.{view_of};
-ghost use Rattle.fk_daemon.specs.Outside.{sink_by};
+ghost use Rattle.fk_log.specs.Printing.{sink_by};
 ghost use Rattle.fk_daemon.specs.Serving.{OpensInVain};
 ghost use Rattle.fk_daemon.specs.Sessions.{HasOpeningCause, OpensDaemon, SaysFault};
 

@@ -1,7 +1,8 @@
 ghost use Rattle.fk_child.specs.View.{view_of};
 ghost use Rattle.fk_daemon.specs.Account.{AreLimits};
-ghost use Rattle.fk_daemon.specs.Causes.{FailsOnlyAs, FailsSink};
-ghost use Rattle.fk_daemon.specs.Outside.{feed_by, outside_by, sink_by};
+ghost use Rattle.fk_log.specs.Causes.{FailsOnlyAs, FailsSink};
+ghost use Rattle.fk_log.specs.Printing.{sink_by};
+ghost use Rattle.fk_daemon.specs.Outside.{feed_by, outside_by};
 ghost use Rattle.fk_daemon.specs.Serving.{Serves};
 
 use crate::Task;

@@ -11,7 +11,8 @@ ghost use Rattle.fk_turn.specs.Daemon.{AtRest};
 ghost use Rattle.fk_turn.specs.Rules.{turn_of};
 ghost use Rattle.fk_turn.specs.Serving.{OwesItsLive};
 ghost use Rattle.fk_daemon.specs.Account.{AreLimits};
-ghost use Rattle.fk_daemon.specs.Outside.{feed_by, outside_by, sink_by};
+ghost use Rattle.fk_log.specs.Printing.{sink_by};
+ghost use Rattle.fk_daemon.specs.Outside.{feed_by, outside_by};
 ghost use Rattle.fk_daemon.specs.Serving.{HasStatus};
 ghost use Rattle.fk_daemon.specs.Sessions.{AsksNext, Begins, BeginsSomehow, Finishes, IsArrival, MayServe, SaysEnd, ServesTaken, ending_of, is_over, new_log, scene_of, standing_by, summary_by};
 

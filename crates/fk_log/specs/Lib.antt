@@ -3,5 +3,7 @@ pub mod Tally
 pub mod Item
 pub mod Shown
 pub mod Writing
+pub mod Printing
+pub mod Causes
 pub mod Log
 pub mod Private

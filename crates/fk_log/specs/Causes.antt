@@ -1,4 +1,4 @@
--- What the answer of a serving run says of the counts of faults, and the other way round.
+-- What the answer of a run says of the counts of faults, and the other way round.
 use Rattle.std.specs.Prelude.{◌≡◌, ◌≢◌, ◌⊎◌, ℕ}
 use Rattle.fk_base.specs.declared.status.Status.{Status}
 use Rattle.fk_base.specs.declared.status.Status.TheVariants as status
@@ -12,8 +12,4 @@ FailsOnlyAs fault answer old new = ((answer ≡ fault) × (new ≡ counted old))
 abbrev pub FailsSink : Status → ℕ → ℕ → Type 0
 FailsSink status.Done old new = new ≡ old
 FailsSink status.SinkFault old new = new ≡ counted old
-FailsSink status.NoMemory old new = (new ≡ old) ⊎ (new ≡ counted old)
-FailsSink status.FeedFault old new = (new ≡ old) ⊎ (new ≡ counted old)
-FailsSink status.DiskFault old new = (new ≡ old) ⊎ (new ≡ counted old)
-FailsSink status.Damaged old new = (new ≡ old) ⊎ (new ≡ counted old)
-FailsSink _ old new = ⊥
+FailsSink _ old new = (new ≡ old) ⊎ (new ≡ counted old)
