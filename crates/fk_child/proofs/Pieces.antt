@@ -67,10 +67,6 @@ slice_get-within [] i x at = absurd cc
 slice_get-within (y ∷ xs) zero x at = omega arith
 slice_get-within (y ∷ xs) (suc i) x at = let rest = slice_get-within xs i x at in omega arith
 
-pub recursion-append : {X : Type 0} (P : X → Type 0) (xs ys : List X) → AllByRecursion P xs → AllByRecursion P ys → AllByRecursion P (xs ++ ys)
-recursion-append P [] ys h g = g
-recursion-append P (x ∷ xs) ys h g = (h.0, recursion-append P xs ys h.1 g)
-
 pub recursion-weaker : {X : Type 0} (P Q : X → Type 0) → ((x : X) → P x → Q x) → (xs : List X) → AllByRecursion P xs → AllByRecursion Q xs
 recursion-weaker P Q f [] h = tt
 recursion-weaker P Q f (x ∷ xs) h = (f x h.0, recursion-weaker P Q f xs h.1)

@@ -1,5 +1,5 @@
 -- How the children that run are polled one after another.
-use Rattle.std.proofs.Common.{◌≡◌, ◌≢◌, ℕ, ◌+◌, ◌*◌, ◌<◌, ◌≤◌, zero, suc, Bool, true, List, [], ◌∷◌, ◌++◌, length, Option, Some, None, refl, sym, ap, ◌∙◌, subst, arith, append_assoc, append-nil}
+use Rattle.std.proofs.Common.{◌≡◌, ◌≢◌, ℕ, ◌+◌, ◌*◌, ◌<◌, ◌≤◌, zero, suc, Bool, true, List, [], ◌∷◌, ◌++◌, length, Option, Some, None, refl, sym, ap, ◌∙◌, subst, arith, append_assoc, append-nil, inl}
 use Rattle.std.specs.List.{AllZip, AllPairs, cons_option}
 use Rattle.std.proofs.lemmas.List.{length-append, length-map, length_push}
 use Rattle.std.proofs.lemmas.List.Elements.{length_all_zip}
@@ -127,7 +127,7 @@ module _ (moment : ℕ) (place : Place) (old : CrewHost) (stands : StandsAt old 
         ran = part.ran ∙ ap (λ (cs : List Child). part.polled ++ cs) left ∙ sym (append_assoc part.polled (child ∷ []) rest);
         counted = let m = part.counted in let n = length_push part.polled child in omega arith;
         answered = AllZip-joined (λ (c : Child) (item : Item). IsPollOf c item.event) part.polled part.items child one.item part.answered one.polled;
-        adds = adds-append part.items (one.item ∷ []) place.ledger [] [] true old.host now.host next.host part.adds part.disk (subst (λ ledger. Adds (one.item ∷ []) ledger [] true now.host next.host) (sym (append-nil place.ledger)) one.adds);
+        adds = adds-append part.items (one.item ∷ []) place.ledger [] [] (record { attempts = inl refl; others = inl refl }) true old.host now.host next.host part.adds part.disk (subst (λ ledger. Adds (one.item ∷ []) ledger [] true now.host next.host) (sym (append-nil place.ledger)) one.adds);
         disk = one.disk ∙ part.disk;
         stands = subst (StandsPolling rest one.found next) here one.stands;
         ends = one.ends ∙ ap (λ (es : List EndItem). es ++ ends_in past (one.item ∷ [])) part.ends ∙ sym (ends_in-append place.past part.items (one.item ∷ []));

@@ -18,10 +18,11 @@ use Rattle.fk_host.specs.Count.{counted}
 use Rattle.fk_ledger.specs.Book.{Book, live_ids}
 use Rattle.fk_ledger.specs.Holds.{KeepsLedger}
 use Rattle.fk_ledger.specs.Stretch.{Stretch}
-use Rattle.fk_child.specs.View.{View, AddsItems, Adds}
+use Rattle.fk_child.specs.View.{View, Adds}
 use Rattle.fk_child.specs.Crew.{CrewState, IsTied, StandsAt, obligation_of, obligations_but}
 use Rattle.fk_child.specs.Calls.{SettlesFirst, FailsToSettle}
 use Rattle.fk_child.proofs.Pieces.{pairs-head, pairs-tail, remove-distinct}
+use Rattle.fk_child.proofs.Images.{adds-change}
 use Rattle.fk_child.proofs.Counts.{pairs-cons}
 use Rattle.fk_child.proofs.Records.{live-apart}
 use Rattle.fk_child.proofs.Ties.{with_host}
@@ -79,24 +80,14 @@ module _ (crew : CrewState) (above : Above) (place : Place) (tied : IsTied crew 
         below = tied.below;
       }
 
--- calls of the disk alone add no item
-no-items : (ledger changes : List Change) (whole : Bool) (images images' : ℕ → Areas → Type 0) (old new : Option Told)
-    → IfTold old new (λ before later. later.trace ≡ before.trace) → IfTold old new (AddsItems [])
-no-items ledger changes whole images images' old None trace = tt
-no-items ledger changes whole images images' None (Some later) trace = absurd trace
-no-items ledger changes whole images images' (Some before) (Some later) trace = record { trace = trace ∙ sym (append-nil before.trace); placed = tt }
-
-pub adds-changes : (ledger changes : List Change) (whole : Bool) (old new : View) → IfTold old.told new.told (λ before later. later.trace ≡ before.trace)
-    → IfTold old.told new.told (Stretch ledger changes whole old.images new.images) → Adds [] ledger changes whole old new
-adds-changes ledger changes whole old new trace stretch =
-    record { trace = no-items ledger changes whole old.images new.images old.told new.told trace; stretch = stretch; faults = tt }
-
 module _ (crew crew' : CrewState) (old new : View) (place : Place) (book book' : Book) (id owed : ℕ) (e : place.ledger ≡ book.changes) (same : owed ≡ id)
     (trace : IfTold old.told new.told (λ before later. later.trace ≡ before.trace)) where
-  adds-settled : (whole : Bool) → IfTold old.told new.told (Stretch book.changes (Done owed ∷ []) whole old.images new.images) → Adds [] place.ledger (Done id ∷ []) whole old new
-  adds-settled whole stretch =
+  adds-settled : (whole : Bool) → KeepsLedger place.ledger old.told old.images → IfTold old.told new.told (Stretch book.changes (Done owed ∷ []) whole old.images new.images)
+      → Adds [] place.ledger (Done id ∷ []) whole old new
+  adds-settled whole keeps stretch =
       subst (λ (n : ℕ). Adds [] place.ledger (Done n ∷ []) whole old new) same
-      (subst (λ (l : List Change). Adds [] l (Done owed ∷ []) whole old new) (sym e) (adds-changes book.changes (Done owed ∷ []) whole old new trace stretch))
+      (adds-change place.ledger (Done owed) whole old new keeps trace
+      (subst (λ (l : List Change). IfTold old.told new.told (Stretch l (Done owed ∷ []) whole old.images new.images)) (sym e) stretch))
 
   -- the first of the records is settled
   pub settles-first : (index : ℕ) (others : List ℕ) → StandsAt (with_host crew old) place → crew.unsettled ≡ id ∷ others → slice_get crew.owed index ≡ Some id
@@ -111,7 +102,7 @@ module _ (crew crew' : CrewState) (old new : View) (place : Place) (book book' :
       record {
         first = first ∙ ap (λ (ids : List ℕ). id ∷ ids) (sym waits);
         book = changes';
-        adds = adds-settled true stretch;
+        adds = adds-settled true at.keeps stretch;
         disk = disk;
         stands = record {
           tied = subst (λ (a : Above). IsTied crew' a (changed place (Done id ∷ []))) (sym above)
@@ -121,17 +112,17 @@ module _ (crew crew' : CrewState) (old new : View) (place : Place) (book book' :
       }
 
   -- the disk failed
-  pub fails-to-settle : (others : List ℕ) → crew.unsettled ≡ id ∷ others → crew' ≡ record crew { unsettled = others } → book' ≡ record book { is_spent = true }
+  pub fails-to-settle : (others : List ℕ) → StandsAt (with_host crew old) place → crew.unsettled ≡ id ∷ others → crew' ≡ record crew { unsettled = others } → book' ≡ record book { is_spent = true }
       → IfTold old.told new.told (Stretch book.changes (Done owed ∷ []) false old.images new.images) → new.above ≡ old.above → new.faults ≡ counted old.faults
       → FailsToSettle book book' place (with_host crew old) (with_host crew' new)
-  fails-to-settle others first is spent stretch above disk =
+  fails-to-settle others at first is spent stretch above disk =
       let waits : crew'.unsettled ≡ others = ap (λ (s : CrewState). s.unsettled) is in
       record {
         id = id;
         first = first ∙ ap (λ (ids : List ℕ). id ∷ ids) (sym waits);
         crew = is ∙ ap (λ (ids : List ℕ). let s : CrewState = record crew { unsettled = ids } in s) (sym waits);
         book = spent;
-        adds = adds-settled false stretch;
+        adds = adds-settled false at.keeps stretch;
         disk = disk;
         above = above;
       }

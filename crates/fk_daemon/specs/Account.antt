@@ -1,7 +1,7 @@
 -- What there is to tell of a serving run, and which accounts may be told.
 use Rattle.std.specs.Prelude.{◌≡◌, ◌≢◌, ◌≤◌, Bool, true, false, List, [], ◌∷◌, ◌++◌, IfSome}
 use Rattle.fk_trace.specs.declared.change.Change.{Change}
-use Rattle.fk_trace.specs.Ledger.{after}
+use Rattle.fk_trace.specs.Ledger.{IsLedger}
 use Rattle.fk_run.specs.declared.limits.Limits.{Limits}
 use Rattle.fk_run.specs.Run.{Run, Ending, changes_of}
 use Rattle.fk_run.specs.Run.Ending.{AtFeedFault, AtDiskFault, AtWantOfMemory}
@@ -24,7 +24,7 @@ pub record Account : Type 0 where
 
 -- the changes that a crash may show: those of the run, and the one that failed
 abbrev pub tried_changes : Account → List Change
-tried_changes account = after (changes_of account.run) account.failing
+tried_changes account = changes_of account.run ++ account.failing
 
 -- each limit that is given is above 0, and that on the turns has 63 bits
 pub record AreLimits (limits : Limits) : Type 0 where
@@ -50,6 +50,7 @@ OpensFeed Unopened run = (run.turns ≡ []) × (run.ending ≡ AtFeedFault)
 -- A legal run of the daemon for this task.
 pub record IsServing (task : Task) (account : Account) : Type 0 where
   pub rules : account.run.rules ≡ rules_by task.policy
+  pub ledger : IsLedger account.run.ledger
   pub legal : Legal account.run
   pub limits : KeepsLimits task.limits account.run
   pub memory : WantsMemoryWithCause account.run

@@ -5,4 +5,5 @@ pub mod Ledgers
 pub mod Keeping
 pub mod Leaves
 pub mod RowParts
+pub mod Cutting
 mod WorkedRows

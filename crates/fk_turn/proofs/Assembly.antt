@@ -1,5 +1,5 @@
 -- A turn is served by its four parts, whole or cut.
-use Rattle.std.proofs.Common.{◌≡◌, ℕ, ◌≤◌, ◌||◌, ◌&&◌, ◌==◌, Bool, true, false, not, cond, nat_le, List, [], ◌∷◌, ◌++◌, map, Result, Ok, Err, inl, inr, refl, sym, ap, subst, ◌∙◌, append_assoc, append-nil, arith}
+use Rattle.std.proofs.Common.{◌≡◌, ◌⊎◌, ℕ, ◌≤◌, ◌||◌, ◌&&◌, ◌==◌, Bool, true, false, not, cond, nat_le, List, [], ◌∷◌, ◌++◌, map, Result, Ok, Err, inl, inr, refl, sym, ap, subst, ◌∙◌, append_assoc, append-nil, arith}
 use Rattle.std.specs.Prelude.{IsErrAnd}
 use Rattle.std.specs.List.{AllByRecursion, AllZip, Contains}
 use Rattle.std.specs.List.{filter, list_any}
@@ -19,6 +19,7 @@ use Rattle.fk_trace.specs.Idle.{is_idle}
 use Rattle.fk_trace.proofs.Turns.{seen-append_none}
 use Rattle.fk_trace.proofs.Settled.{past_after-append}
 use Rattle.fk_trace.proofs.Lists.{Contains-head, Contains-tail, Contains-cases, Contains-filter, Contains-unmap}
+use Rattle.fk_run.specs.Left.{MayStandBefore, is_attempt}
 use Rattle.fk_run.specs.Place.{Place, behind, changed}
 use Rattle.fk_run.specs.Turn.{TakenTurn, IsDueIdle, AttemptsEachDue}
 use Rattle.fk_run.proofs.Ledgers.{live-one}
@@ -42,7 +43,7 @@ use Rattle.fk_turn.specs.Daemon.{Scene, DaemonStands, AtRest}
 use Rattle.fk_turn.specs.Rules.{rules_by}
 use Rattle.fk_turn.specs.Serving.{Part, joined, reached, Serves, OwesItsLive, ServesWhole, ServesTurn, FailsAtDisk, WantsMemory}
 use Rattle.fk_turn.specs.Parts.{beginning, BeginsTurn, settlement, SettlesWhole, FailsToSettle, answering, Answers, AnswersWhole, FailsToRecord, WantsToAnswer, closing_part, AttemptsCloses, Closes}
-use Rattle.fk_turn.proofs.Items.{Tries, Polls, polls-no_turns, polls-close_none, opened-tries, opened-close_none, polled-polls, all-joined, tried-after, tried-none, tries-no_turns, ends_after-append}
+use Rattle.fk_turn.proofs.Items.{Tries, Polls, polls-no_turns, polls-close_none, opened-tries, opened-close_none, polled-polls, all-joined, tried-after, tried-none, tries-no_turns, ends_after-append, polls-others, tries-attempts}
 use Rattle.fk_turn.proofs.Places.{place-same, serves-join, next-stands, scene_next}
 use Rattle.fk_turn.proofs.Lines.{taken_turn, lines-of, no_refusal-told, dones-recorded, opens-settled}
 use Rattle.fk_turn.proofs.Finishing.{finishes, passing, next-joined, next-tries, turn-tries}
@@ -52,10 +53,10 @@ use Rattle.fk_log.proofs.Logged.{Logs-append}
 use Rattle.fk_turn.proofs.Wholes.{GoesOn, goes-on, settled-ledger, settled_place, given, Begins, whole-turn, closes-place, cut-before, cut-among, planned-turn}
 
 -- calls over a ledger that the calls before them have left as it was
-pub adds-onto : (xs ys : List Item) (ledger b : List Change) (whole : Bool) (u v w : View)
+pub adds-onto : (xs ys : List Item) (ledger b : List Change) (whole : Bool) (u v w : View) → (b ≡ []) ⊎ AllByRecursion (λ item. is_attempt item.event ≡ false) xs
     → Adds xs ledger [] true u v → v.faults ≡ u.faults → Adds ys ledger b whole v w → Adds (xs ++ ys) ledger b whole u w
-adds-onto xs ys ledger b whole u v w first same second =
-    adds-append xs ys ledger [] b whole u v w first same (subst (λ (cs : List Change). Adds ys cs b whole v w) (sym (append-nil ledger)) second)
+adds-onto xs ys ledger b whole u v w order first same second =
+    adds-append xs ys ledger [] b (record { attempts = order; others = inl refl }) whole u v w first same (subst (λ (cs : List Change). Adds ys cs b whole v w) (sym (append-nil ledger)) second)
 
 pub part-same : (a b : Part) → a.items ≡ b.items → a.changes ≡ b.changes → a.lines ≡ b.lines → a ≡ b
 part-same a b i c l =
@@ -150,6 +151,10 @@ module _ (policy : Policy) (place : Place) (turn : FeedTurn) (s0 s1 : Scene) (b 
   polls : AllByRecursion Polls b.polled
   polls = polled-polls b.polls.order b.polled b.polls.answered
 
+  -- what begins a turn attempts nothing
+  others : AllByRecursion (λ item. is_attempt item.event ≡ false) (b.start ∷ b.polled)
+  others = (ap is_attempt b.begins, polls-others b.polled polls)
+
   untried : (id : ℕ) → close_tried polled_place.past id ≡ false
   untried id =
       tried-after id b.polled (b.start ∷ place.past) (polls-no_turns b.polled polls)
@@ -185,18 +190,21 @@ module _ (policy : Policy) (place : Place) (turn : FeedTurn) (s0 s1 : Scene) (b 
         taken = taken;
         of_turn = refl;
         cut = cut-before (rules_by policy) place turn b.start b.polled ids begins goes (map Done f.made) unmade all;
+        meant = cut-before (rules_by policy) place turn b.start b.polled ids begins goes (map Done f.made ++ Done f.failed ∷ []) (map Done f.later ++ recorded_by answer_given)
+            (append_assoc (map Done f.made) (Done f.failed ∷ []) (map Done f.later ++ recorded_by answer_given) ∙ all);
         next = Done f.failed;
         later = map Done f.later ++ recorded_by answer_given;
         planned = all ∙ sym (planned-turn (rules_by policy) place turn b.start b.polled ids begins [] taken tt refl (ap (λ (xs : List Item). b.start ∷ xs) (sym (append-nil b.polled))));
         numbered = begun-stands.stands.tied.stands.orderly.numbered;
         adds = subst (λ (xs : List Item). Adds xs place.ledger (map Done f.made ++ Done f.failed ∷ []) false s0.host s2.host) (append-nil (b.start ∷ b.polled))
-            (adds-onto (b.start ∷ b.polled) [] place.ledger (map Done f.made ++ Done f.failed ∷ []) false s0.host s1.host s2.host b.serves.adds b.serves.disk f.adds);
+            (adds-onto (b.start ∷ b.polled) [] place.ledger (map Done f.made ++ Done f.failed ∷ []) false s0.host s1.host s2.host (inr others) b.serves.adds b.serves.disk f.adds);
         disk = f.disk ∙ ap counted b.serves.disk;
         logs = subst (λ (xs : List Line). Logs xs s0.output s2.output)
             (sym (cut-lines Untold f.made [] (map Done f.made) (sym (append-nil (map Done f.made))) refl
             ∙ ap (λ (xs : List Line). (part1.lines ++ map (SettledLine turn.moment) f.made) ++ xs) (no_refusal-told turn.moment turn.input (answer (rules_by policy) (after place.ledger (map Done f.made)) turn))
             ∙ append-nil (part1.lines ++ map (SettledLine turn.moment) f.made)))
             (Logs-append part1.lines (map (SettledLine turn.moment) f.made) s0.output s1.output s2.output b.serves.logs f.logs);
+        book = f.book;
         parks = f.parks;
       }
 
@@ -209,7 +217,7 @@ module _ (policy : Policy) (place : Place) (turn : FeedTurn) (s0 s1 : Scene) (b 
     settled-stands = record { stands = settles.serves.stands; settled = settles.settled }
 
     serves2 : Serves conf turn.moment place part2 s0 s2
-    serves2 = serves-join conf turn.moment place part1 (settlement turn.moment ids) s0 s1 s2 b.serves
+    serves2 = serves-join conf turn.moment place part1 (settlement turn.moment ids) s0 s1 s2 (record { attempts = inr others; others = inl refl }) b.serves
         (subst (λ (at : Place). Serves conf turn.moment at (settlement turn.moment ids) s1 s2) polled-reached settles.serves)
 
     -- the same with plain items
@@ -232,16 +240,19 @@ module _ (policy : Policy) (place : Place) (turn : FeedTurn) (s0 s1 : Scene) (b 
           taken = taken;
           of_turn = refl;
           cut = cut-before (rules_by policy) place turn b.start b.polled ids begins goes (map Done ids) (recorded_by answer_given) refl;
+          meant = cut-before (rules_by policy) place turn b.start b.polled ids begins goes (map Done ids ++ OpenChange f.item ∷ []) []
+              (append-nil (map Done ids ++ OpenChange f.item ∷ []) ∙ ap (λ (cs : List Change). map Done ids ++ cs) (sym made));
           next = OpenChange f.item;
           later = [];
           planned = ap (λ (cs : List Change). map Done ids ++ cs) (sym made)
               ∙ sym (planned-turn (rules_by policy) place turn b.start b.polled ids begins [] taken tt refl (ap (λ (xs : List Item). b.start ∷ xs) (sym (append-nil b.polled))));
           numbered = begun-stands.stands.tied.stands.orderly.numbered;
           adds = subst (λ (xs : List Item). Adds xs place.ledger (map Done ids ++ OpenChange f.item ∷ []) false s0.host s3.host) (append-nil (b.start ∷ b.polled))
-              (adds-append (b.start ∷ b.polled) [] place.ledger (map Done ids) (OpenChange f.item ∷ []) false s0.host s2.host s3.host plainly2.adds plainly2.disk f.adds);
+              (adds-append (b.start ∷ b.polled) [] place.ledger (map Done ids) (OpenChange f.item ∷ []) (record { attempts = inr others; others = inr tt }) false s0.host s2.host s3.host plainly2.adds plainly2.disk f.adds);
           disk = f.disk ∙ ap counted plainly2.disk;
           logs = subst (λ (xs : List Line). Logs xs s0.output s3.output) (append-nil plain2.lines ∙ sym lines)
               (Logs-append plain2.lines [] s0.output s2.output s3.output plainly2.logs f.logs);
+          book = f.book;
           parks = f.parks;
         }
 
@@ -273,12 +284,13 @@ module _ (policy : Policy) (place : Place) (turn : FeedTurn) (s0 s1 : Scene) (b 
           });
           numbered = begun-stands.stands.tied.stands.orderly.numbered;
           adds = subst (λ (xs : List Item). Adds xs place.ledger made true s0.host s3.host) (append-nil (b.start ∷ b.polled))
-              (adds-append (b.start ∷ b.polled) [] place.ledger (map Done ids) w.changes true s0.host s2.host s3.host plainly2.adds plainly2.disk w.adds);
+              (adds-append (b.start ∷ b.polled) [] place.ledger (map Done ids) w.changes (record { attempts = inr others; others = inr tt }) true s0.host s2.host s3.host plainly2.adds plainly2.disk w.adds);
           disk = w.disk ∙ plainly2.disk;
           told = Untold;
           may = inr (λ id. ap (λ (event : Event). is_close_attempt_of id event || close_attempted b.polled id) b.begins ∙ polls-close_none id b.polled polls);
           logs = subst (λ (xs : List Line). Logs xs s0.output s3.output) (sym (cut-lines Untold ids w.changes made refl none))
               (Logs-append plain2.lines lines s0.output s2.output s3.output plainly2.logs w.logs);
+          book = w.book ∙ append_assoc place.ledger (map Done ids) w.changes;
           parks = w.parks;
         }
 
@@ -306,7 +318,8 @@ module _ (policy : Policy) (place : Place) (turn : FeedTurn) (s0 s1 : Scene) (b 
       plain3 = joined plain2 (answering turn answer_given a.opened)
 
       serves3 : Serves conf turn.moment place plain3 s0 s3
-      serves3 = serves-join conf turn.moment place plain2 (answering turn answer_given a.opened) s0 s2 s3 plainly2 a.serves
+      serves3 = serves-join conf turn.moment place plain2 (answering turn answer_given a.opened) s0 s2 s3
+          (record { attempts = inr others; others = inr (tries-attempts a.opened tries) }) plainly2 a.serves
 
       module _ (s4 : Scene) (done : AttemptsCloses conf turn.moment close_place s3 s4) where
         abbrev taken : TakenTurn
@@ -329,7 +342,7 @@ module _ (policy : Policy) (place : Place) (turn : FeedTurn) (s0 s1 : Scene) (b 
         serves4 =
             subst (λ (part : Part). Serves conf turn.moment place part s0 s4)
             (part-same (joined plain3 (closing_part turn.moment done.closed)) plain4 refl (append-nil taken.changes) plain-lines)
-            (serves-join conf turn.moment place plain3 (closing_part turn.moment done.closed) s0 s3 s4 serves3
+            (serves-join conf turn.moment place plain3 (closing_part turn.moment done.closed) s0 s3 s4 (record { attempts = inl refl; others = inr (tries-attempts done.closed closed-tries) }) serves3
             (subst (λ (at : Place). Serves conf turn.moment at (closing_part turn.moment done.closed) s3 s4)
             (closes-place (rules_by policy) place turn b.start b.polled ids a.opened) done.serves))
 
@@ -408,6 +421,7 @@ module _ (policy : Policy) (place : Place) (turn : FeedTurn) (s0 s1 : Scene) (b 
               told = Told;
               may = inl refl;
               logs = serves4.logs;
+              book = serves4.stands.changes;
               parks = owes-live conf s4 end_place serves4.stands;
             }
 

@@ -167,7 +167,7 @@ module _ (conf : Conf) (moment : ℕ) (place : Place) (s0 : Scene) (book : Book)
       serves = subst (λ (part : Part). Serves conf moment place part s0 s2)
           (part-same (joined (closing_part moment done.closed) (closing_part moment items)) (closing_part moment (done.closed ++ items)) refl refl
           (sym (filter_map-append (λ (item : Item). attempt_line moment (attempt_of item.event)) done.closed items)))
-          (serves-join conf moment place (closing_part moment done.closed) (closing_part moment items) s0 s1 s2 done.serves
+          (serves-join conf moment place (closing_part moment done.closed) (closing_part moment items) s0 s1 s2 (record { attempts = inl refl; others = inl refl }) done.serves
           (subst (λ (p : Place). Serves conf moment p (closing_part moment items) s1 s2) (behind-reached moment place done.closed) step));
       settled = settled;
     }

@@ -32,7 +32,7 @@ use Rattle.fk_conf.specs.declared.conf.Conf.{Conf}
 use Rattle.fk_ledger.specs.Book.{Book, has_room, live_ids}
 use Rattle.fk_ledger.specs.Holds.{KeepsLedger}
 use Rattle.fk_ledger.specs.Stretch.{Stretch}
-use Rattle.fk_child.specs.View.{View, AddsItems, Adds}
+use Rattle.fk_child.specs.View.{View, Adds}
 use Rattle.fk_child.specs.Crew.{CrewState, IsTied}
 use Rattle.fk_child.specs.Calls.{Goes, AwaitsOpen, is_begun, recorded}
 use Rattle.fk_turn.specs.declared.policy.Policy.{Policy}
@@ -42,19 +42,14 @@ use Rattle.fk_turn.specs.Daemon.{DaemonState, Scene, DaemonStands, AtRest, scene
 use Rattle.fk_turn.specs.Rules.{rules_by, permit_of}
 use Rattle.fk_turn.specs.Serving.{Serves}
 use Rattle.fk_turn.specs.Parts.{answer_at, answering, Answers, AnswersWhole, FailsToRecord, WantsToAnswer, IsGrantedBy, IsDraftOf, IsLike, datagram_turn}
-use Rattle.fk_child.proofs.Images.{adds-append}
+use Rattle.fk_child.proofs.Images.{adds-append, adds-change}
 use Rattle.fk_log.proofs.Logged.{Logs-append}
 use Rattle.fk_turn.proofs.Logging.{logs-nothing}
 use Rattle.fk_turn.specs.declared.decision.Draft.{Draft}
+use Rattle.fk_turn.proofs.Items.{tries-attempts}
 use Rattle.fk_turn.proofs.Lines.{no_refusal-told}
 use Rattle.fk_turn.proofs.Assembly.{owes-live}
 use Rattle.fk_turn.proofs.Parting.{crew_host, reached-nothing}
-
--- calls of the disk add no item
-pub no-items : (a b : Option Told) → IfTold a b (λ before later. later.trace ≡ before.trace) → IfTold a b (AddsItems [])
-no-items a None h = tt
-no-items None (Some later) h = absurd h
-no-items (Some before) (Some later) h = record { trace = h ∙ sym (append-nil before.trace); placed = tt }
 
 -- the line of an attempt of an open
 pub open-line : (moment id : ℕ) (words : List (List ℕ)) (event : Event) → IsAttempt (Open id) words event
@@ -143,13 +138,11 @@ module _ (policy : Policy) (place : Place) (moment : ℕ) (source : Ip4) (datagr
       item = item;
       permit = permit;
       given = opens;
-      adds = record {
-        trace = no-items h0.told h1.told trace;
-        stretch = subst (λ (cs : List Change). IfTold h0.told h1.told (Stretch cs (OpenChange item ∷ []) false h0.images h1.images)) rest.stands.changes stretch;
-        faults = tt;
-      };
+      adds = adds-change place.ledger (OpenChange item) false h0 h1 rest.stands.stands.keeps trace
+          (subst (λ (cs : List Change). IfTold h0.told h1.told (Stretch cs (OpenChange item ∷ []) false h0.images h1.images)) rest.stands.changes stretch);
       disk = faults;
       logs = logs-nothing o0;
+      book = changes ∙ rest.stands.changes;
       parks = rest.stands.stands.tied.owes ∙ ap live_ids (sym (changes ∙ rest.stands.changes));
     }
 
@@ -165,11 +158,8 @@ module _ (policy : Policy) (place : Place) (moment : ℕ) (source : Ip4) (datagr
       changes-are = ap (λ (b : Book). b.changes) kept ∙ ap (λ (cs : List Change). cs ++ OpenChange item ∷ []) rest.stands.changes
 
       adds1 : Adds [] place.ledger (OpenChange item ∷ []) true h0 h1
-      adds1 = record {
-        trace = no-items h0.told h1.told trace;
-        stretch = subst (λ (cs : List Change). IfTold h0.told h1.told (Stretch cs (OpenChange item ∷ []) true h0.images h1.images)) rest.stands.changes stretch;
-        faults = tt;
-      }
+      adds1 = adds-change place.ledger (OpenChange item) true h0 h1 rest.stands.stands.keeps trace
+          (subst (λ (cs : List Change). IfTold h0.told h1.told (Stretch cs (OpenChange item ∷ []) true h0.images h1.images)) rest.stands.changes stretch)
 
       -- its open is yet to be attempted
       pub awaits-open : (id : ℕ) → id ≡ item.id → (KeepsLedger book.changes h1.told h1.images) → AwaitsOpen id item.due item place (crew_host d.crew h1)
@@ -195,9 +185,10 @@ module _ (policy : Policy) (place : Place) (moment : ℕ) (source : Ip4) (datagr
           fresh = fresh-unseen (rules.digest datagram) place.ledger granted.unseen;
           changes = OpenChange item ∷ [];
           front = inr (sym (ap recorded_by opens));
-          adds = adds-append [] [] place.ledger (OpenChange item ∷ []) [] true h0 h1 h2 adds1 faults goes.adds;
+          adds = adds-append [] [] place.ledger (OpenChange item ∷ []) [] (record { attempts = inl refl; others = inr tt }) true h0 h1 h2 adds1 faults goes.adds;
           disk = goes.disk ∙ faults;
           logs = subst (λ (a : Answer). Logs (input_lines moment turn.input Untold (OpenChange item ∷ []) a) o0 o1) (sym opens) grant-logs;
+          book = changes-are;
           parks = goes.stands.tied.owes ∙ ap live_ids (sym changes-are);
         }
 
@@ -210,7 +201,8 @@ module _ (policy : Policy) (place : Place) (moment : ℕ) (source : Ip4) (datagr
             let lines : OpenedLine moment item.id opening begun ∷ [] ≡ attempt_lines moment (attempt ∷ []) =
             ap (λ (b : Bool). OpenedLine moment item.id opening b ∷ []) is ∙ sym (open-line moment item.id opening attempt.event tried) in
             let serves : Serves policy.conf.now moment place (answering turn (Opens item permit) (attempt ∷ [])) (scene d h0 o0) s2 = record {
-              adds = adds-append [] (attempt ∷ []) place.ledger (OpenChange item ∷ []) [] true h0 h1 h2 adds1 faults goes.adds;
+              adds = adds-append [] (attempt ∷ []) place.ledger (OpenChange item ∷ []) []
+                  (record { attempts = inl refl; others = inr (tries-attempts (attempt ∷ []) ((Open item.id, opening, tried), tt)) }) true h0 h1 h2 adds1 faults goes.adds;
               disk = goes.disk ∙ faults;
               logs = Logs-append (GrantedLine moment source item.id grant.stanza item.due ∷ []) (attempt_lines moment (attempt ∷ [])) o0 o1 o2 grant-logs
                   (subst (λ (xs : List Line). Logs xs o1 o2) lines line);
@@ -285,6 +277,7 @@ wants-before policy place moment source datagram d e h o rest formed unseen adds
       adds = adds;
       disk = refl;
       logs = subst (λ (xs : List Line). Logs xs o o) (sym (no_refusal-told moment at.input (answer_at policy place at))) (logs-nothing o);
+      book = (like-rests policy.conf.now d e h o place like rest).stands.changes ∙ sym (append-nil place.ledger);
       parks = owes-live policy.conf.now (scene e h o) place (like-rests policy.conf.now d e h o place like rest).stands;
     }
 
@@ -312,6 +305,7 @@ answers-from policy place at d e h o new (Err Disk) a = record {
   adds = a.adds;
   disk = a.disk;
   logs = a.logs;
+  book = a.book;
   parks = a.parks;
 }
 answers-from policy place at d e h o new (Err NoMemory) a = record {
@@ -325,6 +319,7 @@ answers-from policy place at d e h o new (Err NoMemory) a = record {
   adds = a.adds;
   disk = a.disk;
   logs = a.logs;
+  book = a.book;
   parks = a.parks;
 }
 

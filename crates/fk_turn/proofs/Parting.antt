@@ -1,5 +1,5 @@
 -- The steps of each part of a turn.
-use Rattle.std.proofs.Common.{◌≡◌, ℕ, suc, ◌+◌, ◌≤◌, true, false, List, [], ◌∷◌, ◌++◌, map, length, Result, Ok, Err, refl, sym, ap, subst, ◌∙◌, append_assoc, append-nil, arith}
+use Rattle.std.proofs.Common.{◌≡◌, ℕ, suc, ◌+◌, ◌≤◌, true, false, List, [], ◌∷◌, ◌++◌, map, length, Result, Ok, Err, inl, inr, refl, sym, ap, subst, ◌∙◌, append_assoc, append-nil, arith}
 use Rattle.std.specs.Prelude.{IsErr}
 use Rattle.fk_base.specs.declared.memory.Failed.{Failed}
 use Rattle.std.proofs.lemmas.List.{map-append}
@@ -64,7 +64,7 @@ begins conf moment number place book turns c0 c1 c2 h0 h1 h2 o0 o1 o2 rest is li
       begins = marks.event ∙ ap Turn same;
       polls = polls.polled;
       serves = record {
-        adds = adds-onto (start ∷ []) polls.items place.ledger [] true h0 h1 h2 goes.adds goes.disk polls.goes.adds;
+        adds = adds-onto (start ∷ []) polls.items place.ledger [] true h0 h1 h2 (inl refl) goes.adds goes.disk polls.goes.adds;
         disk = polls.goes.disk ∙ goes.disk;
         logs = subst (λ (xs : List Line). Logs xs o0 o2) lines (Logs-append (TurnLine moment number ∷ []) (map (end_line moment) c2.ends) o0 o1 o2 line ends);
         stands = subst (DaemonStands conf s2) (place-same at (reached moment place (beginning moment place start polls.items)) refl refl (sym (append-nil place.ledger)) refl) stands;
@@ -121,7 +121,7 @@ settles-more conf moment place s0 id turns book1 book2 c1 c2 h1 h2 o1 o2 front f
       serves = subst (λ (part : Part). Serves conf moment place part s0 s2)
           (part-same (joined (settlement moment front.made) (settlement moment (id ∷ []))) (settlement moment (front.made ++ id ∷ [])) refl
           (sym (map-append Done front.made (id ∷ []))) (sym (map-append (SettledLine moment) front.made (id ∷ []))))
-          (serves-join conf moment place (settlement moment front.made) (settlement moment (id ∷ [])) s0 s1 s2 front.serves step);
+          (serves-join conf moment place (settlement moment front.made) (settlement moment (id ∷ [])) s0 s1 s2 (record { attempts = inr tt; others = inr tt }) front.serves step);
     }
 
 -- none is left
@@ -145,9 +145,10 @@ fails-settle conf moment place s0 turns book1 book2 c1 c2 h1 h2 o1 front f =
       failed = f.id;
       later = c2.unsettled;
       order = front.order ∙ ap (λ (ids : List ℕ). front.made ++ ids) f.first;
-      adds = adds-append [] [] place.ledger (map Done front.made) (Done f.id ∷ []) false s0.host h1 h2 front.serves.adds front.serves.disk f.adds;
+      adds = adds-append [] [] place.ledger (map Done front.made) (Done f.id ∷ []) (record { attempts = inr tt; others = inr tt }) false s0.host h1 h2 front.serves.adds front.serves.disk f.adds;
       disk = f.disk ∙ ap counted front.serves.disk;
       logs = front.serves.logs;
+      book = ap (λ (b : Book). b.changes) f.book ∙ front.serves.stands.changes;
       parks = ap (λ (c : CrewState). c.owed) f.crew ∙ owes-live conf s1 (reached moment place (settlement moment front.made)) front.serves.stands
           ∙ ap (λ (b : Book). live_ids b.changes) (sym f.book);
     }

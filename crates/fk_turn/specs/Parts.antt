@@ -15,7 +15,7 @@ use Rattle.fk_trace.specs.declared.change.Change.TheVariants.{Open as OpenChange
 use Rattle.fk_trace.specs.declared.refusal.LogWhy.{LogWhy}
 use Rattle.fk_trace.specs.Trace.{Item}
 use Rattle.fk_trace.specs.Trace.Event.{Turn}
-use Rattle.fk_trace.specs.Ledger.{seen, is_seen}
+use Rattle.fk_trace.specs.Ledger.{seen, is_seen, after}
 use Rattle.fk_trace.specs.Decision.{FeedTurn, Permit, Answer, answer, record_of}
 use Rattle.fk_trace.specs.Decision.Input.{Datagram}
 use Rattle.fk_trace.specs.Decision.Answer.{Refuses, Opens}
@@ -88,6 +88,7 @@ pub record FailsToSettle (moment : ℕ) (place : Place) (old new : Scene) : Type
   pub adds : Adds [] place.ledger (map Done made ++ Done failed ∷ []) false old.host new.host
   pub disk : new.host.faults ≡ counted old.host.faults
   pub logs : Logs (map (SettledLine moment) made) old.output new.output
+  pub book : new.daemon.book.changes ≡ after place.ledger (map Done made)
   pub parks : OwesItsLive new.daemon
 
 abbrev pub Settles : {T : Type 0} → Conf → ℕ → Place → Scene → Scene → Result T Failed → Type 0
@@ -121,6 +122,7 @@ pub record FailsToRecord (policy : Policy) (place : Place) (turn : FeedTurn) (ol
   pub adds : Adds [] place.ledger (OpenChange item ∷ []) false old.host new.host
   pub disk : new.host.faults ≡ counted old.host.faults
   pub logs : Logs [] old.output new.output
+  pub book : new.daemon.book.changes ≡ place.ledger
   pub parks : OwesItsLive new.daemon
 
 -- Memory was wanting for a datagram of the right shape that is not recorded: before its record, or in the host's start behind it.
@@ -135,6 +137,7 @@ pub record WantsToAnswer (policy : Policy) (place : Place) (turn : FeedTurn) (ol
   pub adds : Adds [] place.ledger changes true old.host new.host
   pub disk : new.host.faults ≡ old.host.faults
   pub logs : Logs (input_lines turn.moment turn.input Untold changes (answer_at policy place turn)) old.output new.output
+  pub book : new.daemon.book.changes ≡ after place.ledger changes
   pub parks : OwesItsLive new.daemon
 
 abbrev pub Answers : {T : Type 0} → Policy → Place → FeedTurn → Scene → Scene → Result T TurnErr → Type 0

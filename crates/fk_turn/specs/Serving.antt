@@ -3,6 +3,7 @@ use Rattle.std.specs.Prelude.{◌≡◌, ◌⊎◌, ◌<◌, ℕ, true, false, L
 use Rattle.std.specs.List.{AllPairs}
 use Rattle.fk_trace.specs.declared.change.Change.{Change}
 use Rattle.fk_trace.specs.Trace.{Item, children, past_after}
+use Rattle.fk_trace.specs.Ledger.{after}
 use Rattle.fk_trace.specs.Decision.{FeedTurn}
 use Rattle.fk_run.specs.Place.{Place, behind, changed}
 use Rattle.fk_run.specs.Turn.{TakenTurn, WholeTurn, CutTurn, after_turn}
@@ -67,11 +68,14 @@ pub record FailsAtDisk (policy : Policy) (place : Place) (turn : FeedTurn) (old 
   pub next : Change
   pub later : List Change
   pub planned : taken.changes ++ next ∷ later ≡ planned_turn (rules_by policy) place taken
+  -- with it, too, the turn is cut
+  pub meant : CutTurn (rules_by policy) place (record taken { changes = taken.changes ++ next ∷ [] })
   -- the host still numbers its children by rising numbers
   pub numbered : AllPairs (λ a b. a.number < b.number) (children (past_after place.past taken.items))
   pub adds : Adds taken.items place.ledger (taken.changes ++ next ∷ []) false old.host new.host
   pub disk : new.host.faults ≡ counted old.host.faults
   pub logs : Logs (turn_lines (rules_by policy) place Untold taken) old.output new.output
+  pub book : new.daemon.book.changes ≡ after place.ledger taken.changes
   pub parks : OwesItsLive new.daemon
 
 -- Memory was wanting in the turn, for one of two causes, and the turn is cut there: the trace, the ledger and the log have what was
@@ -88,6 +92,7 @@ pub record WantsMemory (policy : Policy) (place : Place) (turn : FeedTurn) (old 
   pub told : RefusalLine
   pub may : MayTellAt AtWantOfMemory taken.items told
   pub logs : Logs (turn_lines (rules_by policy) place told taken) old.output new.output
+  pub book : new.daemon.book.changes ≡ after place.ledger taken.changes
   pub parks : OwesItsLive new.daemon
 
 -- what serving a turn from the place does, by its answer

@@ -63,5 +63,5 @@ returns-in-Err-clause-settles g c =
     ∙ insert-removed c.self.inside.owed.items index c.id-id.result placed in
     subst (λ (s : CrewState). AtEachOver c.args.ledger.now.changes (FailsToSettle c.args.ledger.now c.settle.new.self) (on s c.args.host.now) (on crew' c.settle.new.disk)) c.self.view_is
     (λ place e at. fails-to-settle crew crew' old new place c.args.ledger.now c.settle.new.self c.id-id.result c.remove-owed.result e same c.in-Err.ensures.host.trace
-    c.pop_front.new.self.items first (ap (λ (ids : List ℕ). let s : CrewState = record crew { owed = ids; unsettled = c.pop_front.new.self.items } in s) held)
+    c.pop_front.new.self.items at first (ap (λ (ids : List ℕ). let s : CrewState = record crew { owed = ids; unsettled = c.pop_front.new.self.items } in s) held)
     c.in-Err.ensures.err.1 c.in-Err.ensures.moments c.in-Err.ensures.host.rest c.in-Err.ensures.cause)
