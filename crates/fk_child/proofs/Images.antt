@@ -15,7 +15,7 @@ use Rattle.fk_host.specs.Host.{Brings, items_of}
 use Rattle.fk_ledger.specs.Holds.{HoldsState, KeepsLedger}
 use Rattle.fk_ledger.specs.Stretch.{Stretch}
 use Rattle.fk_ledger.proofs.StretchLaws.{left_stretch, left_keeps, image_holds}
-use Rattle.fk_child.specs.View.{View, AddsItems, HoldsFront, Moments, made_of, Adds}
+use Rattle.fk_child.specs.View.{View, MakesCalls, AddsItems, HoldsFront, Moments, made_of, Adds}
 use Rattle.fk_child.proofs.Counts.{pairs-cons}
 use Rattle.fk_child.proofs.Pieces.{pairs-head, pairs-tail, recursion-weaker}
 
@@ -61,6 +61,32 @@ told-leaves event faults images images' (Some before) (Some later) call = passes
 pub told-keeps : (event : Option Event) (faults : ℕ) (ledger : List Change) (images images' : ℕ → Areas → Type 0) (old new : Option Told)
     → IfTold old new (Brings event faults images images') → KeepsLedger ledger old images → KeepsLedger ledger new images'
 told-keeps event faults ledger images images' old new call keeps = left_keeps old new ledger images images' keeps (told-leaves event faults images images' old new call)
+
+-- a call above the disk is one
+pub calls-once : (event : Option Event) (old new : View) → IfTold old.told new.told (Brings event new.faults old.images new.images) → MakesCalls 1 old new
+calls-once event old new call =
+    if_told_map old.told new.told (Brings event new.faults old.images new.images) (λ before later. later.moments ≡ before.moments + 1) (λ x y c. c.call.moments) call
+
+none-calls : (told : Option Told) → IfTold told told (λ before later. later.moments ≡ before.moments + 0)
+none-calls None = tt
+none-calls (Some now) = omega arith
+
+pub calls-none : (view : View) → MakesCalls 0 view view
+calls-none view = none-calls view.told
+
+calls-told : (m n : ℕ) (old mid new : Option Told) → IfTold old mid (λ before later. later.moments ≡ before.moments + m) → IfTold mid new (λ before later. later.moments ≡ before.moments + n)
+    → IfTold old new (λ before later. later.moments ≡ before.moments + (m + n))
+calls-told m n old mid None first second = tt
+calls-told m n old None (Some z) first second = absurd second
+calls-told m n None (Some y) (Some z) first second = absurd first
+calls-told m n (Some x) (Some y) (Some z) first second = omega (arith, first, second)
+
+-- calls that adjoin are as many as both
+pub calls-then : (m n : ℕ) (old mid new : View) → MakesCalls m old mid → MakesCalls n mid new → MakesCalls (m + n) old new
+calls-then m n old mid new first second = calls-told m n old.told mid.told new.told first second
+
+pub calls-same : (m n : ℕ) (old new : View) → m ≡ n → MakesCalls m old new → MakesCalls n old new
+calls-same m n old new e calls = subst (λ (k : ℕ). MakesCalls k old new) e calls
 
 placed-one : (event : Option Event) (moments faults low : ℕ) → low < moments → AllByRecursion (λ (item : Item). (low < item.moments) × (item.moments ≤ moments)) (items_of event moments faults)
 placed-one None moments faults low l = tt
@@ -209,7 +235,7 @@ pairs-joined R Low High over (x ∷ xs) ys first second low high =
     (All-append (R x) xs ys (pairs-head R x xs first) (All-from_recursion (R x) ys (recursion-weaker High (R x) (λ y h. over x y low.0 h) ys high)))
     (pairs-joined R Low High over xs ys (pairs-tail R x xs first) second low.1 high)
 
-items-then : (xs ys : List Item) (x y z : Told) → AddsItems xs x y → x.moments ≤ y.moments → AddsItems ys y z → y.moments ≤ z.moments → AddsItems (xs ++ ys) x z
+pub items-then : (xs ys : List Item) (x y z : Told) → AddsItems xs x y → x.moments ≤ y.moments → AddsItems ys y z → y.moments ≤ z.moments → AddsItems (xs ++ ys) x z
 items-then xs ys x y z m l n k = record {
   trace = n.trace ∙ ap (λ items. items ++ ys) m.trace ∙ append_assoc x.trace xs ys;
   placed = recursion-joined (λ (item : Item). (x.moments < item.moments) × (item.moments ≤ z.moments)) xs ys

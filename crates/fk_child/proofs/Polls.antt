@@ -168,6 +168,7 @@ module _ (moment : ℕ) (place : Place) (child : Child) (rest found : List Child
       record {
         item = item_after event new;
         polled = polled;
+        calls = goes.calls;
         adds = goes.adds;
         disk = disk;
         found = found ++ child ∷ [];
@@ -243,6 +244,7 @@ module _ (moment : ℕ) (place : Place) (child : Child) (rest found : List Child
         record {
           item = item;
           polled = refl;
+          calls = goes.calls;
           adds = goes.adds;
           disk = disk;
           found = found;

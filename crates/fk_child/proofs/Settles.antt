@@ -18,7 +18,7 @@ use Rattle.fk_host.specs.Count.{counted}
 use Rattle.fk_ledger.specs.Book.{Book, live_ids}
 use Rattle.fk_ledger.specs.Holds.{KeepsLedger}
 use Rattle.fk_ledger.specs.Stretch.{Stretch}
-use Rattle.fk_child.specs.View.{View, Adds}
+use Rattle.fk_child.specs.View.{View, MakesCalls, Adds}
 use Rattle.fk_child.specs.Crew.{CrewState, IsTied, StandsAt, obligation_of, obligations_but}
 use Rattle.fk_child.specs.Calls.{SettlesFirst, FailsToSettle}
 use Rattle.fk_child.proofs.Pieces.{pairs-head, pairs-tail, remove-distinct}
@@ -93,15 +93,16 @@ module _ (crew crew' : CrewState) (old new : View) (place : Place) (book book' :
   pub settles-first : (index : ℕ) (others : List ℕ) → StandsAt (with_host crew old) place → crew.unsettled ≡ id ∷ others → slice_get crew.owed index ≡ Some id
       → crew'.owed ≡ remove crew.owed index → crew'.children ≡ crew.children → crew'.kept ≡ crew.kept → crew'.unsettled ≡ others
       → book' ≡ record book { changes = after book.changes (Done owed ∷ []) } → KeepsLedger book'.changes new.told new.images
-      → IfTold old.told new.told (Stretch book.changes (Done owed ∷ []) true old.images new.images) → new.above ≡ old.above → new.faults ≡ old.faults
+      → IfTold old.told new.told (Stretch book.changes (Done owed ∷ []) true old.images new.images) → new.above ≡ old.above → new.faults ≡ old.faults → MakesCalls 4 old new
       → SettlesFirst id book book' place (with_host crew old) (with_host crew' new)
-  settles-first index others at first placed owes holds keeps waits changes kept stretch above disk =
+  settles-first index others at first placed owes holds keeps waits changes kept stretch above disk calls =
       let changes' : book' ≡ record book { changes = after book.changes (Done id ∷ []) } =
       changes ∙ ap (λ (n : ℕ). let b : Book = record book { changes = after book.changes (Done n ∷ []) } in b) same in
       let ledger : book'.changes ≡ (changed place (Done id ∷ [])).ledger = ap (λ (b : Book). b.changes) changes' ∙ ap (λ (l : List Change). after l (Done id ∷ [])) (sym e) in
       record {
         first = first ∙ ap (λ (ids : List ℕ). id ∷ ids) (sym waits);
         book = changes';
+        calls = calls;
         adds = adds-settled true at.keeps stretch;
         disk = disk;
         stands = record {

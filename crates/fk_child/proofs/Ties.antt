@@ -26,7 +26,7 @@ use Rattle.fk_child.specs.View.{View}
 use Rattle.fk_child.specs.Crew.{CrewState, CrewHost, IsTied, StandsAt, obligations_but}
 use Rattle.fk_child.specs.Calls.{Goes, MarksTurn}
 use Rattle.fk_child.proofs.Pieces.{pairs-before, pairs-behind, filter-but}
-use Rattle.fk_child.proofs.Images.{moment_of, brought, adds-brought, told-keeps}
+use Rattle.fk_child.proofs.Images.{moment_of, brought, adds-brought, calls-once, told-keeps}
 
 -- the crew with this host
 abbrev pub with_host : CrewState → View → CrewHost
@@ -176,8 +176,9 @@ tied-ended crew crew' above moment place number purpose good moments faults foun
 pub goes-item : (event : Event) (moment : ℕ) (place : Place) (crew crew' : CrewState) (old new : View)
     → IfTold old.told new.told (Brings (Some event) new.faults old.images new.images) → new.faults ≡ old.faults
     → StandsAt (with_host crew old) place → IsTied crew' new.above (behind moment place (item_after event new ∷ []))
-    → Goes moment place (item_after event new ∷ []) (with_host crew old) (with_host crew' new)
+    → Goes 1 moment place (item_after event new ∷ []) (with_host crew old) (with_host crew' new)
 goes-item event moment place crew crew' old new call disk stands tied = record {
+  calls = calls-once (Some event) old new call;
   adds = adds-brought (Some event) place.ledger old new call disk stands.keeps;
   disk = disk;
   stands = record { tied = tied; keeps = told-keeps (Some event) new.faults place.ledger old.images new.images old.told new.told call stands.keeps };
@@ -186,8 +187,9 @@ goes-item event moment place crew crew' old new call disk stands tied = record {
 pub goes-nothing : (moment : ℕ) (place : Place) (crew crew' : CrewState) (old new : View)
     → IfTold old.told new.told (Brings None new.faults old.images new.images) → new.faults ≡ old.faults
     → StandsAt (with_host crew old) place → IsTied crew' new.above place
-    → Goes moment place [] (with_host crew old) (with_host crew' new)
+    → Goes 1 moment place [] (with_host crew old) (with_host crew' new)
 goes-nothing moment place crew crew' old new call disk stands tied = record {
+  calls = calls-once None old new call;
   adds = adds-brought None place.ledger old new call disk stands.keeps;
   disk = disk;
   stands = record { tied = tied; keeps = told-keeps None new.faults place.ledger old.images new.images old.told new.told call stands.keeps };

@@ -1,5 +1,5 @@
 -- What is said of a host between two calls, and what calls add to it.
-use Rattle.std.specs.Prelude.{◌≡◌, ℕ, ◌-◌, ◌<◌, ◌≤◌, Bool, List, ◌++◌, length, take, Option, if◌then◌else◌}
+use Rattle.std.specs.Prelude.{◌≡◌, ℕ, ◌+◌, ◌-◌, ◌<◌, ◌≤◌, Bool, List, ◌++◌, length, take, Option, if◌then◌else◌}
 use Rattle.std.specs.List.{AllPairs, AllByRecursion}
 use Rattle.fk_trace.specs.declared.change.Change.{Change}
 use Rattle.fk_trace.specs.Trace.{Item}
@@ -20,6 +20,10 @@ pub record View : Type 1 where
 
 abbrev pub view_of : {H : Type 0} → (H → Option Told) → (H → ℕ → Areas → Type 0) → (H → ℕ) → (H → Above) → H → View
 view_of told images faults above host = record { told = told host; images = images host; faults = faults host; above = above host }
+
+-- so many calls of the host were made
+abbrev pub MakesCalls : ℕ → View → View → Type 0
+MakesCalls count old new = IfTold old.told new.told (λ before later. later.moments ≡ before.moments + count)
 
 -- The items are the new end of the trace, and each of them stands at a new moment, later than those before it. So the items up to
 -- a moment are the first ones.

@@ -6,7 +6,7 @@ use Rattle.std.proofs.Math.Seq.{take-append-add}
 use Rattle.std.proofs.lemmas.Bool.{cases_lt}
 use Rattle.std.proofs.lemmas.Grind.{flat_map-append}
 use Rattle.std.proofs.lemmas.List.{take_all}
-use Rattle.std.proofs.lemmas.List.Elements.{filter-append, Contains-append_left, All-append, All-from_recursion}
+use Rattle.std.proofs.lemmas.List.Elements.{filter-append, Contains-append_left}
 use Rattle.fk_trace.specs.declared.change.Change.{Change}
 use Rattle.fk_trace.specs.Trace.{Event, Item, Child, children, begun_by, is_turn, past_after}
 use Rattle.fk_trace.specs.Trace.Event.{Turn}
@@ -28,9 +28,8 @@ use Rattle.fk_journal.proofs.Told.{past_then, if_told_map}
 use Rattle.fk_ledger.specs.Holds.{HoldsState, KeepsLedger}
 use Rattle.fk_ledger.specs.Stretch.{IsLedgerOpening}
 use Rattle.fk_child.specs.View.{View, AddsItems, HoldsFront, Moments, made_of, Adds}
-use Rattle.fk_child.proofs.Images.{adds-none}
-use Rattle.fk_child.proofs.Pieces.{recursion-weaker, pairs-head, pairs-tail}
-use Rattle.fk_child.proofs.Counts.{pairs-cons}
+use Rattle.fk_child.proofs.Images.{items-then, adds-none}
+use Rattle.fk_child.proofs.Pieces.{recursion-weaker}
 use Rattle.fk_daemon.specs.Moments.{HoldsRun, RunMoments}
 use Rattle.fk_daemon.specs.Sessions.{IsCrashed, HoldsCrash, AddsTurns, LeavesView}
 use Rattle.fk_daemon.proofs.Behind.{items_in, changes_in, items-push, changes-push, legal-whole, legal-cut, cases-push}
@@ -74,24 +73,6 @@ no_turn-none k items behind seen =
     let none : list_any (λ (item : Item). is_turn item.event) (items_by k items) ≡ false = ap (list_any (λ (item : Item). is_turn item.event)) (by-none k items behind) in
     let never : true ≡ false = sym seen ∙ none in
     cc
-
-pairs-joined : {X : Type 0} (R : X → X → Type 0) (Low High : X → Type 0) → ((a b : X) → Low a → High b → R a b) → (xs ys : List X) → AllPairs R xs → AllPairs R ys → AllByRecursion Low xs → AllByRecursion High ys → AllPairs R (xs ++ ys)
-pairs-joined R Low High over [] ys first second low high = second
-pairs-joined R Low High over (x ∷ xs) ys first second low high =
-    pairs-cons R x (xs ++ ys)
-    (All-append (R x) xs ys (pairs-head R x xs first) (All-from_recursion (R x) ys (recursion-weaker High (R x) (λ y h. over x y low.0 h) ys high)))
-    (pairs-joined R Low High over xs ys (pairs-tail R x xs first) second low.1 high)
-
-items-then : (xs ys : List Item) (x y z : Told) → AddsItems xs x y → x.moments ≤ y.moments → AddsItems ys y z → y.moments ≤ z.moments → AddsItems (xs ++ ys) x z
-items-then xs ys x y z m l n k = record {
-  trace = n.trace ∙ ap (λ items. items ++ ys) m.trace ∙ append_assoc x.trace xs ys;
-  placed = recursion-joined (λ (item : Item). (x.moments < item.moments) × (item.moments ≤ z.moments)) xs ys
-      (recursion-weaker (λ (item : Item). (x.moments < item.moments) × (item.moments ≤ y.moments)) (λ item. (x.moments < item.moments) × (item.moments ≤ z.moments)) (λ item h. (h.0, let u = h.1 in omega arith)) xs m.placed)
-      (recursion-weaker (λ (item : Item). (y.moments < item.moments) × (item.moments ≤ z.moments)) (λ item. (x.moments < item.moments) × (item.moments ≤ z.moments)) (λ item h. (let u = h.0 in omega arith, h.1)) ys n.placed);
-  rising = pairs-joined (λ (a b : Item). a.moments < b.moments) (λ item. item.moments ≤ y.moments) (λ item. y.moments < item.moments) (λ a b low high. omega (arith, low, high)) xs ys m.rising n.rising
-      (recursion-weaker (λ (item : Item). (x.moments < item.moments) × (item.moments ≤ y.moments)) (λ item. item.moments ≤ y.moments) (λ item h. h.1) xs m.placed)
-      (recursion-weaker (λ (item : Item). (y.moments < item.moments) × (item.moments ≤ z.moments)) (λ item. y.moments < item.moments) (λ item h. h.0) ys n.placed);
-}
 
 -- no item stands at or before the moment
 pub crash-none : (run : Run) (tried : List Change) (k : ℕ) → AllByRecursion (λ item. k < item.moments) (trace_of run) → IsCrashed run tried k 0

@@ -4,7 +4,9 @@ use Rattle.std.specs.List.{AllPairs}
 use Rattle.std.proofs.lemmas.List.{map-append}
 use Rattle.fk_trace.specs.declared.change.Change.{Change}
 use Rattle.fk_trace.specs.Trace.{Item, Child, children, past_after}
-use Rattle.fk_trace.specs.Ledger.{live}
+use Rattle.fk_trace.specs.declared.change.Change.TheVariants.{Done}
+use Rattle.fk_trace.specs.Ledger.{live, dones}
+use Rattle.fk_trace.specs.Planned.{settlements}
 use Rattle.fk_trace.specs.Decision.{FeedTurn, Rules}
 use Rattle.fk_trace.proofs.Splits.{none_before}
 use Rattle.fk_trace.proofs.Settled.{past_after-append}
@@ -80,6 +82,7 @@ serving-uncut task ledger ending turns old now going whole fits tells fails = re
   };
   limits = record { fits = fits; before = going.before };
   memory = λ wants front last placed. absurd (let never : true ≡ false = ap cuts_turn (sym wants) ∙ whole in cc);
+  settled = λ wants front last placed. absurd (let never : true ≡ false = ap cuts_turn (sym wants) ∙ whole in cc);
   wants = λ wants none. let never : true ≡ false = ap cuts_turn (sym wants) ∙ whole in cc;
   opens = tt;
   tells = tells;
@@ -142,6 +145,9 @@ module _ (task : Task) (ledger : List Change) (turns : List TakenTurn) (old mid 
   abbrev all : List TakenTurn
   all = turns ++ taken ∷ []
 
+  abbrev Settles : List TakenTurn → TakenTurn → Type 0
+  Settles front last = map Done (dones last.changes) ≡ settlements (after_turns (entry ledger) front).past last.items
+
   abbrev Wants : List TakenTurn → TakenTurn → Type 0
   Wants front last =
       WantsAtDatagram (rules_by task.policy) (after_turns (entry ledger) front) last ⊎ WantsAtClose (rules_by task.policy) (after_turns (entry ledger) front) last
@@ -156,6 +162,7 @@ module _ (task : Task) (ledger : List Change) (turns : List TakenTurn) (old mid 
     numbered : AreNumbered (past_after place.past taken.items)
     adds : Adds taken.items place.ledger (taken.changes ++ failing) whole mid.outside.host new.outside.host
     wants : ending ≡ AtWantOfMemory → Wants turns taken
+    settled : ending ≡ AtWantOfMemory → Settles turns taken
     tells : MayTellAt ending taken.items refusal
     fails : FailsNext ending failing (run_of task ledger old.outside.host.faults ending all)
     logs : Logs (turn_lines (rules_by task.policy) place refusal taken) (output_of mid) (output_of new)
@@ -188,6 +195,9 @@ module _ (task : Task) (ledger : List Change) (turns : List TakenTurn) (old mid 
     memory = λ wants front last placed.
         let one = last-one turns front taken last placed in
         subst (λ (t : TakenTurn). Wants front t) (sym one.1) (subst (λ (f : List TakenTurn). Wants f taken) (sym one.0) (cuts.wants wants));
+    settled = λ wants front last placed.
+        let one = last-one turns front taken last placed in
+        subst (λ (t : TakenTurn). Settles front t) (sym one.1) (subst (λ (f : List TakenTurn). Settles f taken) (sym one.0) (cuts.settled wants));
     opens = tt;
     tells = subst (λ (items : List Item). MayTellAt ending items refusal) (sym (last-push [] turns taken)) cuts.tells;
     fails = cuts.fails;
@@ -228,6 +238,7 @@ finish-disk task ledger turns old mid new turn going calm under takes fails =
       numbered = fails.numbered;
       adds = fails.adds;
       wants = λ wants. absurd cc;
+      settled = λ wants. absurd cc;
       tells = refl;
       fails = (fails.next, fails.later, refl, planned_is);
       logs = fails.logs;
@@ -261,6 +272,7 @@ finish-memory task ledger turns old mid new turn going calm under takes wants =
       numbered = wants.numbered;
       adds = subst (λ (changes : List Change). Adds taken.items (after_turns (entry ledger) turns).ledger changes true mid.outside.host new.outside.host) (sym (append-nil taken.changes)) wants.adds;
       wants = λ e. wants.cause;
+      settled = λ e. wants.settled;
       tells = wants.may;
       fails = refl;
       logs = wants.logs;

@@ -7,3 +7,4 @@ pub mod Leaves
 pub mod RowParts
 pub mod Cutting
 mod WorkedRows
+mod LeftRows

@@ -44,7 +44,7 @@ returns-in-Ok-clause-settles g c =
     subst (λ (s : CrewState). AtEachOver c.args.ledger.now.changes (SettlesFirst c.id-id.result c.args.ledger.now c.settle.new.self) (on s c.args.host.now) (on crew' c.settle.new.disk)) c.self.view_is
     (λ place e at. settles-first crew crew' old new place c.args.ledger.now c.settle.new.self c.id-id.result c.remove-owed.result e same c.in-Ok.ensures.host.trace
     c.index_of-index.result c.pop_front.new.self.items at first placed c.remove-owed.ensures.items refl refl refl
-    c.in-Ok.ensures.ok c.in-Ok.ensures.keeps c.in-Ok.ensures.moments c.in-Ok.ensures.host.rest c.in-Ok.ensures.cause)
+    c.in-Ok.ensures.ok c.in-Ok.ensures.keeps c.in-Ok.ensures.moments c.in-Ok.ensures.host.rest c.in-Ok.ensures.cause c.in-Ok.ensures.calls)
 
 pub returns-in-Err-clause-settles : goal.returns-in-Err-clause-settles
 returns-in-Err-clause-settles g c =
