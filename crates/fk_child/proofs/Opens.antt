@@ -1,25 +1,21 @@
 -- How a crew takes up a record that was just made.
-use Rattle.std.proofs.Common.{◌≡◌, ◌≢◌, ℕ, ◌+◌, ◌<◌, ◌≤◌, Bool, true, false, List, [], ◌∷◌, ◌++◌, map, Ok, Err, Result, refl, sym, ap, ◌∙◌, subst, arith}
-use Rattle.std.specs.List.{All, AllPairs, Contains}
+use Rattle.std.proofs.Common.{◌≡◌, ℕ, Bool, false, List, [], ◌∷◌, ◌++◌, map, Ok, Err, Result, sym, ap, ◌∙◌, subst, arith}
 use Rattle.std.proofs.lemmas.List.{map-append}
-use Rattle.std.proofs.lemmas.List.Elements.{All-weaker, Contains-append_left}
 use Rattle.std.proofs.lemmas.Bool.{false_from_ne_true}
 use Rattle.fk_base.specs.declared.memory.NoMemory.{NoMemory}
 use Rattle.fk_base.specs.declared.purpose.Purpose.{Purpose}
 use Rattle.fk_trace.specs.declared.change.OpenRecord.{OpenRecord}
-use Rattle.fk_trace.specs.declared.change.Change.{Change}
-use Rattle.fk_trace.specs.declared.change.Change.TheVariants.{Open as OpenChange}
 use Rattle.fk_trace.specs.Trace.{Item}
 use Rattle.fk_trace.specs.Orderly.{is_attempted}
 use Rattle.fk_trace.specs.Ledger.{live, next_id}
 use Rattle.fk_trace.proofs.Ledgers.{next_id-push_open}
 use Rattle.fk_run.specs.Place.{Place}
-use Rattle.fk_cycle.specs.Kept.{Kept, is_kept}
+use Rattle.fk_cycle.specs.Kept.{is_kept}
 use Rattle.fk_cycle.specs.Stands.{Obligation, Stands, is_owed}
 use Rattle.fk_cycle.proofs.StandsLemmas.{is_kept-owed}
 use Rattle.fk_ledger.specs.Book.{live_ids}
 use Rattle.fk_child.specs.View.{View}
-use Rattle.fk_child.specs.Crew.{CrewState, CrewHost, IsTied, StandsAt, obligation_of, obligations_but}
+use Rattle.fk_child.specs.Crew.{CrewState, CrewHost, StandsAt, obligation_of, obligations_but}
 use Rattle.fk_child.specs.Calls.{Goes, Attempts, AwaitsOpen, recorded}
 use Rattle.fk_child.proofs.Records.{live-below, owed-live, was-ledger, numbered-next, live-recorded, owed-recorded}
 use Rattle.fk_child.proofs.Ties.{with_host}

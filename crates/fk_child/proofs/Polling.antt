@@ -1,21 +1,20 @@
 -- How the children that run are polled one after another.
-use Rattle.std.proofs.Common.{◌≡◌, ◌≢◌, ℕ, ◌+◌, ◌*◌, ◌<◌, ◌≤◌, zero, suc, Bool, true, List, [], ◌∷◌, ◌++◌, length, Option, Some, None, refl, sym, ap, ◌∙◌, subst, arith, append_assoc, append-nil, inl}
-use Rattle.std.specs.List.{AllZip, AllPairs, cons_option}
+use Rattle.std.proofs.Common.{◌≡◌, ℕ, ◌+◌, ◌*◌, ◌<◌, ◌≤◌, true, List, [], ◌∷◌, ◌++◌, length, Option, Some, None, refl, sym, ap, ◌∙◌, subst, arith, append_assoc, append-nil, inl}
+use Rattle.std.specs.List.{AllZip, cons_option}
 use Rattle.std.proofs.lemmas.List.{length-append, length-map, length_push}
-use Rattle.std.proofs.lemmas.List.Elements.{length_all_zip}
 use Rattle.fk_trace.specs.declared.change.OpenRecord.{OpenRecord}
-use Rattle.fk_trace.specs.Trace.{Event, Item, Child, running, past_after}
+use Rattle.fk_trace.specs.Trace.{Item, Child, running, past_after}
 use Rattle.fk_trace.specs.Idle.{child_numbered}
 use Rattle.fk_trace.specs.Ledger.{live}
-use Rattle.fk_trace.specs.Legal.{IsPollOf, PollsEachOnce, moments_with, ends_after}
+use Rattle.fk_trace.specs.Legal.{IsPollOf, moments_with, ends_after}
 use Rattle.fk_trace.specs.Planned.{settled_in}
 use Rattle.fk_trace.proofs.Settled.{past_after-append, settled_in-append}
 use Rattle.fk_run.specs.Place.{Place, behind}
 use Rattle.fk_child.specs.declared.items.EndItem.{EndItem}
-use Rattle.fk_child.specs.View.{View, Adds}
-use Rattle.fk_child.specs.Crew.{CrewState, CrewHost, IsTied, StandsAt}
-use Rattle.fk_child.specs.Calls.{Goes, PollsAll, ends_in, end_item, polled_number}
-use Rattle.fk_child.specs.Private.{with_children, StandsPolling, PollsOne, PollsNext, MayPoll, PartlyPolled}
+use Rattle.fk_child.specs.View.{Adds}
+use Rattle.fk_child.specs.Crew.{CrewState, CrewHost, StandsAt}
+use Rattle.fk_child.specs.Calls.{PollsAll, ends_in, end_item, polled_number}
+use Rattle.fk_child.specs.Private.{with_children, StandsPolling, PollsNext, MayPoll, PartlyPolled}
 use Rattle.fk_child.proofs.Counts.{runs-few, owed-few}
 use Rattle.fk_child.proofs.Images.{adds-none, adds-append, calls-none, calls-then, calls-same}
 use Rattle.fk_child.proofs.Ties.{running-rising}

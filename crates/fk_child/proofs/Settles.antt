@@ -1,8 +1,7 @@
 -- How a record is settled.
-use Rattle.std.proofs.Common.{◌≡◌, ◌≢◌, ℕ, ◌+◌, ◌<◌, ◌≤◌, zero, suc, Bool, true, false, not, ◌||◌, cond, eqb, List, [], ◌∷◌, ◌++◌, length, map, get_or, Option, Some, None, refl, sym, ap, ◌∙◌, subst, arith, append-nil}
+use Rattle.std.proofs.Common.{◌≡◌, ◌≢◌, ℕ, ◌+◌, zero, suc, Bool, true, false, not, ◌||◌, eqb, List, [], ◌∷◌, ◌++◌, length, map, get_or, Some, refl, sym, ap, ◌∙◌, subst, arith}
 use Rattle.std.specs.Prelude.{slice_get}
 use Rattle.std.specs.List.{All, AllPairs, Contains, filter, list_any, remove}
-use Rattle.std.proofs.lemmas.List.{length-map, get_or-map}
 use Rattle.std.proofs.lemmas.List.Elements.{All-contains, All-head, All-map}
 use Rattle.fk_trace.specs.declared.change.OpenRecord.{OpenRecord}
 use Rattle.fk_trace.specs.declared.change.Change.{Change}
@@ -13,7 +12,7 @@ use Rattle.fk_trace.proofs.Ledgers.{filter-filter, live-push_done, opens-push_do
 use Rattle.fk_run.specs.Place.{Place, changed}
 use Rattle.fk_run.proofs.Ledgers.{live-kept_done}
 use Rattle.fk_cycle.specs.Stands.{Obligation, Stands}
-use Rattle.fk_host.specs.Disk.{Areas, Told, Above, IfTold}
+use Rattle.fk_host.specs.Disk.{Above, IfTold}
 use Rattle.fk_host.specs.Count.{counted}
 use Rattle.fk_ledger.specs.Book.{Book, live_ids}
 use Rattle.fk_ledger.specs.Holds.{KeepsLedger}

@@ -9,7 +9,7 @@ use Rattle.fk_trace.specs.declared.change.OpenRecord.{OpenRecord}
 use Rattle.fk_trace.specs.declared.change.Change.{Change}
 use Rattle.fk_trace.specs.declared.change.Change.TheVariants.{Open as OpenChange, Done}
 use Rattle.fk_trace.specs.Trace.{Event, Item, Child, close_tried}
-use Rattle.fk_trace.specs.Trace.Event.{Turn, Began, StartFailed, Ended, Runs, PollFailed}
+use Rattle.fk_trace.specs.Trace.Event.{Turn, Began, Ended, PollFailed}
 use Rattle.fk_trace.specs.Idle.{child_numbered}
 use Rattle.fk_trace.specs.Ledger.{live, after}
 use Rattle.fk_trace.specs.Planned.{settled_in}

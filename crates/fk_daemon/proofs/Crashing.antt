@@ -1,28 +1,26 @@
 -- What a crash leaves of a run, turn by turn.
-use Rattle.std.proofs.Common.{◌≡◌, ◌≢◌, ◌⊎◌, ℕ, ◌+◌, ◌<◌, ◌≤◌, min, nat_le, Bool, true, false, IsTrue, Option, Some, None, List, [], ◌∷◌, ◌++◌, length, map, take, refl, sym, ap, ◌∙◌, subst, arith, inl, inr, append_assoc, append-nil, length-append}
-use Rattle.std.specs.Prelude.{is_some}
-use Rattle.std.specs.List.{filter, flat_map, list_any, AllPairs, AllByRecursion, Contains}
+use Rattle.std.proofs.Common.{◌≡◌, ℕ, ◌+◌, ◌<◌, ◌≤◌, min, nat_le, Bool, true, false, Option, Some, None, List, [], ◌∷◌, ◌++◌, length, map, take, refl, sym, ap, ◌∙◌, subst, arith, inl, inr, append_assoc, append-nil, length-append}
+use Rattle.std.specs.List.{list_any, AllPairs, AllByRecursion, Contains}
 use Rattle.std.proofs.Math.Seq.{take-append-add}
 use Rattle.std.proofs.lemmas.Bool.{cases_lt}
 use Rattle.std.proofs.lemmas.Grind.{flat_map-append}
 use Rattle.std.proofs.lemmas.List.{take_all}
 use Rattle.std.proofs.lemmas.List.Elements.{filter-append, Contains-append_left}
 use Rattle.fk_trace.specs.declared.change.Change.{Change}
-use Rattle.fk_trace.specs.Trace.{Event, Item, Child, children, begun_by, is_turn, past_after}
-use Rattle.fk_trace.specs.Trace.Event.{Turn}
+use Rattle.fk_trace.specs.Trace.{Item, Child, children, begun_by, is_turn, past_after}
 use Rattle.fk_trace.specs.Ledger.{after, opens, dones}
 use Rattle.fk_trace.specs.Decision.{Rules}
 use Rattle.fk_trace.specs.Headline.{opens_attempted, EndedCleanly}
 use Rattle.fk_trace.proofs.Settled.{past_after-append}
 use Rattle.fk_trace.proofs.Splits.{AllPairs-front, recursion-behind}
-use Rattle.fk_run.specs.Place.{Place, entry}
+use Rattle.fk_run.specs.Place.{entry}
 use Rattle.fk_run.specs.Turn.{TakenTurn, CutTurn, after_turns}
 use Rattle.fk_run.specs.Run.{Run, Ending, trace_of, changes_of}
 use Rattle.fk_run.specs.Run.Ending.{AtLimit, AtDiskFault}
 use Rattle.fk_run.specs.Legal.{Legal, LegalTurns}
 use Rattle.fk_run.specs.Left.{items_by, items_behind, is_attempt, IsCutAt, IsLeft, crashed}
 use Rattle.fk_run.specs.Headline.{OpensOnce}
-use Rattle.fk_run.proofs.Cutting.{by-all, by-none, split-at, cut-cut, cut_off, recursion-joined, recursion-filtered, take-within}
+use Rattle.fk_run.proofs.Cutting.{by-all, by-none, split-at, cut-cut, cut_off, recursion-filtered, take-within}
 use Rattle.fk_host.specs.Disk.{Areas, Told, IfTold}
 use Rattle.fk_journal.proofs.Told.{past_then, if_told_map}
 use Rattle.fk_ledger.specs.Holds.{HoldsState, KeepsLedger}

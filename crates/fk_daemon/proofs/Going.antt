@@ -5,7 +5,7 @@ use Rattle.std.specs.List.{AllByRecursion}
 use Rattle.std.proofs.lemmas.Bool.Decides.{nat_tests}
 use Rattle.std.proofs.lemmas.List.{map-append}
 use Rattle.fk_trace.specs.declared.change.Change.{Change}
-use Rattle.fk_trace.specs.Trace.{Item, Child, children, past_after}
+use Rattle.fk_trace.specs.Trace.{Item, past_after}
 use Rattle.fk_trace.specs.Ledger.{after, live, IsLedger}
 use Rattle.fk_trace.proofs.Settled.{past_after-append}
 use Rattle.fk_trace.specs.Decision.{FeedTurn}

@@ -1,15 +1,13 @@
 -- A run from its beginning to its stop.
-use Rattle.std.proofs.Common.{◌≡◌, ℕ, ◌<◌, Bool, true, false, IsTrue, List, [], ◌∷◌, ◌++◌, length, map, refl, sym, ap, ◌∙◌, subst, ◌⊎◌, inl, inr, append_assoc, append-nil, length-append, arith, ◌≤◌}
-use Rattle.std.specs.List.{AllPairs}
+use Rattle.std.proofs.Common.{◌≡◌, ℕ, Bool, true, false, IsTrue, List, [], ◌∷◌, ◌++◌, length, map, refl, sym, ap, ◌∙◌, subst, ◌⊎◌, inl, inr, append_assoc, append-nil, length-append, arith, ◌≤◌}
 use Rattle.std.proofs.lemmas.List.{map-append}
 use Rattle.fk_trace.specs.declared.change.Change.{Change}
-use Rattle.fk_trace.specs.Trace.{Item, Child, children, past_after}
+use Rattle.fk_trace.specs.Trace.{Item, past_after}
 use Rattle.fk_trace.specs.declared.change.Change.TheVariants.{Done}
 use Rattle.fk_trace.specs.Ledger.{live, dones}
 use Rattle.fk_trace.specs.Planned.{settlements}
 use Rattle.fk_trace.specs.Decision.{FeedTurn, Rules}
 use Rattle.fk_trace.proofs.Splits.{none_before}
-use Rattle.fk_trace.proofs.Settled.{past_after-append}
 use Rattle.fk_run.specs.Place.{Place, entry}
 use Rattle.fk_run.specs.Turn.{TakenTurn, CutTurn, after_turns}
 use Rattle.fk_run.specs.Run.{Run, Ending, cuts_turn}
@@ -33,10 +31,10 @@ use Rattle.fk_daemon.specs.declared.session.Session.{Session}
 use Rattle.fk_daemon.specs.declared.session.Stop.{Stop}
 use Rattle.fk_daemon.specs.declared.session.Stop.TheVariants as stop
 use Rattle.fk_daemon.specs.Outside.{Feeds}
-use Rattle.fk_daemon.specs.Account.{Account, FailsNext, IsServing, is_whole}
+use Rattle.fk_daemon.specs.Account.{Account, FailsNext, IsServing}
 use Rattle.fk_daemon.specs.Serving.{HasCauses}
 use Rattle.fk_daemon.specs.Sessions.{AddsTurns, Standing, Takes, TakesNone, SumsUp, MaySumUp, Finishes, ending_of, run_of, output_of, scene_of}
-use Rattle.fk_daemon.proofs.Behind.{items_in, changes_in, items-push, changes-push, ledger-behind, last-push, legal-whole, legal-cut, planned-push, feeds-then, cases-push, last-one}
+use Rattle.fk_daemon.proofs.Behind.{items_in, changes_in, changes-push, ledger-behind, last-push, legal-whole, legal-cut, planned-push, feeds-then, cases-push, last-one}
 use Rattle.fk_daemon.proofs.Crashing.{AreNumbered, adds-ending}
 use Rattle.fk_daemon.proofs.Going.{Going, numbered-cut, unfailed-behind, adds-behind, logs-behind, going-none}
 

@@ -1,5 +1,5 @@
 -- What a crash leaves of one turn, worked by hand: a turn in which a record is made, by four calls of the disk, and its open started.
-use Rattle.std.proofs.Common.{◌≡◌, ℕ, Bool, true, false, List, [], ◌∷◌, refl, sym, subst, arith, inl, inr}
+use Rattle.std.proofs.Common.{◌≡◌, ℕ, true, false, List, [], ◌∷◌, refl, sym, subst, arith, inl, inr}
 use Rattle.std.specs.List.{AllByRecursion}
 use Rattle.fk_base.specs.declared.purpose.Purpose.TheVariants.{Open}
 use Rattle.fk_trace.specs.declared.change.OpenRecord.{OpenRecord}

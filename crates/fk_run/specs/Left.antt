@@ -6,7 +6,7 @@ use Rattle.fk_trace.specs.Trace.{Event, Item, attempt_of, is_turn}
 use Rattle.fk_trace.specs.Ledger.{opens, dones}
 use Rattle.fk_trace.specs.Headline.{opens_attempted, EndedCleanly}
 use Rattle.fk_run.specs.Turn.{TakenTurn}
-use Rattle.fk_run.specs.Run.{Run, Ending, trace_of, changes_of}
+use Rattle.fk_run.specs.Run.{Run, trace_of, changes_of}
 use Rattle.fk_run.specs.Run.Ending.{AtDiskFault}
 use Rattle.fk_run.specs.Legal.{Legal}
 

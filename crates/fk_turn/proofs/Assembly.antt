@@ -19,7 +19,7 @@ use Rattle.fk_trace.specs.Idle.{is_idle}
 use Rattle.fk_trace.proofs.Turns.{seen-append_none}
 use Rattle.fk_trace.proofs.Settled.{past_after-append}
 use Rattle.fk_trace.proofs.Lists.{Contains-head, Contains-tail, Contains-cases, Contains-filter, Contains-unmap}
-use Rattle.fk_run.specs.Left.{MayStandBefore, is_attempt}
+use Rattle.fk_run.specs.Left.{is_attempt}
 use Rattle.fk_run.specs.Place.{Place, behind, changed}
 use Rattle.fk_run.specs.Turn.{TakenTurn, IsDueIdle, AttemptsEachDue}
 use Rattle.fk_run.proofs.Ledgers.{live-one}

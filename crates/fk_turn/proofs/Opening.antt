@@ -1,5 +1,5 @@
 -- A datagram is refused, or recorded and opened.
-use Rattle.std.proofs.Common.{◌≡◌, ℕ, ◌+◌, Bool, true, false, cond, List, [], ◌∷◌, ◌++◌, Option, Some, None, Result, Ok, Err, inl, inr, refl, sym, ap, subst, ◌∙◌, append-nil}
+use Rattle.std.proofs.Common.{◌≡◌, ℕ, ◌+◌, Bool, true, false, cond, List, [], ◌∷◌, ◌++◌, Option, None, Result, Ok, Err, inl, inr, refl, sym, ap, subst, ◌∙◌, append-nil}
 use Rattle.std.specs.Prelude.{IsErrAnd}
 use Rattle.std.specs.List.{Contains, cons_option}
 use Rattle.fk_base.specs.declared.address.Ip4.{Ip4}
@@ -22,7 +22,7 @@ use Rattle.fk_trace.specs.Legal.{IsAttempt, AttemptsThatOpen}
 use Rattle.fk_trace.proofs.Grants.{fresh-unseen}
 use Rattle.fk_run.specs.Place.{Place}
 use Rattle.fk_host.specs.Count.{counted}
-use Rattle.fk_host.specs.Disk.{Told, IfTold, Above}
+use Rattle.fk_host.specs.Disk.{IfTold, Above}
 use Rattle.fk_log.specs.Line.{Line}
 use Rattle.fk_log.specs.Line.Line.{RefusedLine, GrantedLine, OpenedLine}
 use Rattle.fk_log.specs.Log.{input_lines, attempt_line, attempt_lines}

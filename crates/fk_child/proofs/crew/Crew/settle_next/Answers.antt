@@ -1,8 +1,7 @@
-use Rattle.std.proofs.Common.{◌≡◌, ◌<◌, ℕ, List, [], ◌∷◌, length, Some, true, sym, ap, subst, refl, ◌∙◌, arith, get_or}
+use Rattle.std.proofs.Common.{◌≡◌, ℕ, List, ◌∷◌, Some, sym, ap, subst, refl, ◌∙◌, arith}
 use Rattle.std.specs.Prelude.{slice_get}
 use Rattle.std.specs.List.{Contains, insert, remove}
-use Rattle.fk_ledger.specs.Book.{Book}
-use Rattle.fk_child.specs.Crew.{CrewState, on_host, StandsAt}
+use Rattle.fk_child.specs.Crew.{CrewState, on_host}
 use Rattle.fk_child.specs.Calls.{AtEachOver, SettlesFirst, FailsToSettle}
 use Rattle.fk_child.specs.Private.{state_of}
 use Rattle.fk_child.proofs.Pieces.{insert-removed, slice_get-within}
