@@ -1,7 +1,7 @@
 -- Which close is started next.
-use Rattle.std.proofs.Common.{◌≡◌, ◌≢◌, ℕ, ◌+◌, ◌<◌, ◌≤◌, Bool, true, false, not, ◌&&◌, nat_le, eqb, List, [], ◌∷◌, ◌++◌, length, map, Option, Some, None, Ok, Err, Result, refl, sym, ap, ◌∙◌, subst, arith}
+use Rattle.std.proofs.Common.{◌≡◌, ℕ, ◌≤◌, Bool, true, false, not, ◌&&◌, nat_le, eqb, List, [], Some, None, Ok, Err, sym, ap, ◌∙◌, subst}
 use Rattle.std.specs.Prelude.{find}
-use Rattle.std.specs.List.{All, Contains, filter, list_any}
+use Rattle.std.specs.List.{Contains, filter, list_any}
 use Rattle.std.proofs.lemmas.Bool.{eqb-true, eqb-false, eq-eqb, and_parts, leb-true, not-true}
 use Rattle.fk_base.specs.declared.memory.NoMemory.{NoMemory}
 use Rattle.fk_base.specs.declared.purpose.Purpose.TheVariants.{Close}
@@ -16,11 +16,10 @@ use Rattle.fk_cycle.specs.Kept.{Kept, may_begin}
 use Rattle.fk_cycle.specs.Stands.{Obligation, Stands, is_owed, is_due, IsNextDue}
 use Rattle.fk_cycle.proofs.StandsLemmas.{close-begins}
 use Rattle.fk_host.specs.Disk.{Above}
-use Rattle.fk_child.specs.declared.items.Tried.{Tried}
 use Rattle.fk_child.specs.View.{View}
 use Rattle.fk_child.specs.Crew.{CrewState, CrewHost, IsTied, StandsAt, obligation_of, obligations_but}
-use Rattle.fk_child.specs.Calls.{Attempts, IsNextClose, TriesNext, StartsClose}
-use Rattle.fk_child.proofs.Records.{find-found, find-none, words-of}
+use Rattle.fk_child.specs.Calls.{Attempts, IsNextClose, StartsClose}
+use Rattle.fk_child.proofs.Records.{find-found, find-none}
 use Rattle.fk_child.proofs.Ties.{with_host}
 use Rattle.fk_child.proofs.Opens.{attempts-from}
 

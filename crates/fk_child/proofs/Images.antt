@@ -1,16 +1,23 @@
 -- What calls add to a host: a call above the disk, no call, and two calls one after the other.
-use Rattle.std.proofs.Common.{◌≡◌, ℕ, ◌+◌, ◌<◌, ◌≤◌, Bool, true, List, [], ◌++◌, Option, Some, None, refl, sym, ap, ◌∙◌, subst, arith, append_assoc, append-nil}
-use Rattle.std.specs.List.{AllByRecursion}
+use Rattle.std.proofs.Common.{◌≡◌, ℕ, ◌+◌, ◌<◌, ◌≤◌, min, Bool, true, false, List, [], ◌∷◌, ◌++◌, length, take, Option, Some, None, refl, sym, ap, ◌∙◌, subst, arith, inl, inr, append_assoc, append-nil, length-append}
+use Rattle.std.specs.List.{AllPairs, AllByRecursion}
+use Rattle.std.proofs.Math.Seq.{take-append-add}
+use Rattle.std.proofs.lemmas.Bool.{cases_lt}
+use Rattle.std.proofs.lemmas.List.{take_all}
+use Rattle.std.proofs.lemmas.List.Elements.{All-append, All-from_recursion}
 use Rattle.fk_trace.specs.declared.change.Change.{Change}
 use Rattle.fk_trace.specs.Trace.{Event, Item}
 use Rattle.fk_trace.specs.Ledger.{after}
-use Rattle.fk_host.specs.Disk.{Areas, Told, IfTold, Passes, Same, LeavesAreas}
+use Rattle.fk_run.specs.Left.{IsCutAt, MayStandBefore}
+use Rattle.fk_run.proofs.Cutting.{cut-later, cut-earlier, recursion-joined, take-within}
+use Rattle.fk_host.specs.Disk.{Areas, Told, IfTold, KeepsPast, Passes, Same, LeavesAreas}
 use Rattle.fk_host.specs.Host.{Brings, items_of}
-use Rattle.fk_ledger.specs.Holds.{KeepsLedger}
+use Rattle.fk_ledger.specs.Holds.{HoldsState, KeepsLedger}
 use Rattle.fk_ledger.specs.Stretch.{Stretch}
-use Rattle.fk_ledger.proofs.StretchLaws.{stretches_join, left_stretch, left_keeps}
-use Rattle.fk_child.specs.View.{View, AddsItems, Adds}
-use Rattle.fk_child.proofs.Pieces.{recursion-append, recursion-weaker}
+use Rattle.fk_ledger.proofs.StretchLaws.{left_stretch, left_keeps, image_holds}
+use Rattle.fk_child.specs.View.{View, MakesCalls, AddsItems, HoldsFront, Moments, made_of, Adds}
+use Rattle.fk_child.proofs.Counts.{pairs-cons}
+use Rattle.fk_child.proofs.Pieces.{pairs-head, pairs-tail, recursion-weaker}
 
 -- how many calls were made, where it is told
 abbrev pub moment_of : Option Told → ℕ
@@ -20,6 +27,17 @@ moment_of (Some now) = now.moments
 -- the items that a call has brought
 abbrev pub brought : Option Event → View → List Item
 brought event view = items_of event (moment_of view.told) view.faults
+
+pub if_told_map : (old new : Option Told) (P Q : Told → Told → Type 0) → ((x y : Told) → P x y → Q x y) → IfTold old new P → IfTold old new Q
+if_told_map old None P Q f p = tt
+if_told_map None (Some y) P Q f p = absurd p
+if_told_map (Some x) (Some y) P Q f p = f x y p
+
+pub past_then : (m n : ℕ) (a b c : ℕ → Areas → Type 0) → m ≤ n → KeepsPast m a b → KeepsPast n b c → KeepsPast m a c
+past_then m n a b c le first second = λ k image within. (
+  λ there. (first k image within).0 ((second k image (omega (arith, le, within))).0 there),
+  λ here. (second k image (omega (arith, le, within))).1 ((first k image within).1 here),
+)
 
 -- a call above the disk leaves the areas
 passes-leaves : (images images' : ℕ → Areas → Type 0) (before later : Told) → Passes Same Same images images' before later → LeavesAreas images images' before later
@@ -44,34 +62,100 @@ pub told-keeps : (event : Option Event) (faults : ℕ) (ledger : List Change) (i
     → IfTold old new (Brings event faults images images') → KeepsLedger ledger old images → KeepsLedger ledger new images'
 told-keeps event faults ledger images images' old new call keeps = left_keeps old new ledger images images' keeps (told-leaves event faults images images' old new call)
 
+-- a call above the disk is one
+pub calls-once : (event : Option Event) (old new : View) → IfTold old.told new.told (Brings event new.faults old.images new.images) → MakesCalls 1 old new
+calls-once event old new call =
+    if_told_map old.told new.told (Brings event new.faults old.images new.images) (λ before later. later.moments ≡ before.moments + 1) (λ x y c. c.call.moments) call
+
+none-calls : (told : Option Told) → IfTold told told (λ before later. later.moments ≡ before.moments + 0)
+none-calls None = tt
+none-calls (Some now) = omega arith
+
+pub calls-none : (view : View) → MakesCalls 0 view view
+calls-none view = none-calls view.told
+
+calls-told : (m n : ℕ) (old mid new : Option Told) → IfTold old mid (λ before later. later.moments ≡ before.moments + m) → IfTold mid new (λ before later. later.moments ≡ before.moments + n)
+    → IfTold old new (λ before later. later.moments ≡ before.moments + (m + n))
+calls-told m n old mid None first second = tt
+calls-told m n old None (Some z) first second = absurd second
+calls-told m n None (Some y) (Some z) first second = absurd first
+calls-told m n (Some x) (Some y) (Some z) first second = omega (arith, first, second)
+
+-- calls that adjoin are as many as both
+pub calls-then : (m n : ℕ) (old mid new : View) → MakesCalls m old mid → MakesCalls n mid new → MakesCalls (m + n) old new
+calls-then m n old mid new first second = calls-told m n old.told mid.told new.told first second
+
+pub calls-same : (m n : ℕ) (old new : View) → m ≡ n → MakesCalls m old new → MakesCalls n old new
+calls-same m n old new e calls = subst (λ (k : ℕ). MakesCalls k old new) e calls
+
 placed-one : (event : Option Event) (moments faults low : ℕ) → low < moments → AllByRecursion (λ (item : Item). (low < item.moments) × (item.moments ≤ moments)) (items_of event moments faults)
 placed-one None moments faults low l = tt
 placed-one (Some event) moments faults low l = ((l, omega arith), tt)
+
+rising-one : (event : Option Event) (moments faults : ℕ) → AllPairs (λ (a b : Item). a.moments < b.moments) (items_of event moments faults)
+rising-one None moments faults = λ i j d l m. absurd (omega arith)
+rising-one (Some event) moments faults = λ i j d l m. absurd (omega arith)
 
 told-items : (event : Option Event) (faults : ℕ) (images images' : ℕ → Areas → Type 0) (old new : Option Told)
     → IfTold old new (Brings event faults images images') → IfTold old new (AddsItems (items_of event (moment_of new) faults))
 told-items event faults images images' old None call = tt
 told-items event faults images images' None (Some later) call = absurd call
 told-items event faults images images' (Some before) (Some later) call =
-    record { trace = call.trace; placed = placed-one event later.moments faults before.moments (let one = call.call.moments in omega arith) }
+    record {
+      trace = call.trace;
+      placed = placed-one event later.moments faults before.moments (let one = call.call.moments in omega arith);
+      rising = rising-one event later.moments faults;
+    }
 
 same-faults : (event : Option Event) (moments faults old : ℕ) → faults ≡ old → AllByRecursion (λ (item : Item). item.faults ≡ old) (items_of event moments faults)
 same-faults None moments faults old e = tt
 same-faults (Some event) moments faults old e = (e, tt)
+
+-- without changes, calls leave the ledger
+quiet-moments : (items : List Item) (ledger : List Change) (old new : ℕ → Areas → Type 0) (x y : Told) → Stretch ledger [] true old new x y → Moments (HoldsFront items ledger []) 0 old new x y
+quiet-moments items ledger old new x y stretch = record {
+  later = stretch.later;
+  past = stretch.past;
+  each = λ k image behind upto here.
+      let front = stretch.each k image behind upto here in
+      record {
+        count = 0;
+        enough = omega arith;
+        cut = record { changes_before_attempts = inl (omega arith); others_before_changes = inl refl };
+        holds = subst (λ (cs : List Change). HoldsState (ledger ++ cs) image) (take_all front.0 [] (omega arith)) front.1;
+      };
+  last = λ image here. record {
+    count = 0;
+    enough = omega arith;
+    cut = record { changes_before_attempts = inl (omega arith); others_before_changes = inl refl };
+    holds = stretch.all refl image here;
+  };
+}
+
+pub quiet-told : (items : List Item) (ledger : List Change) (images images' : ℕ → Areas → Type 0) (old new : Option Told)
+    → IfTold old new (Stretch ledger [] true images images') → IfTold old new (Moments (HoldsFront items ledger []) 0 images images')
+quiet-told items ledger images images' old new stretch =
+    if_told_map old new (Stretch ledger [] true images images') (Moments (HoldsFront items ledger []) 0 images images') (λ x y s. quiet-moments items ledger images images' x y s) stretch
 
 -- a call above the disk adds what it brought
 pub adds-brought : (event : Option Event) (ledger : List Change) (old new : View) → IfTold old.told new.told (Brings event new.faults old.images new.images)
     → new.faults ≡ old.faults → KeepsLedger ledger old.told old.images → Adds (brought event new) ledger [] true old new
 adds-brought event ledger old new call disk keeps = record {
   trace = told-items event new.faults old.images new.images old.told new.told call;
-  stretch = left_stretch old.told new.told ledger old.images new.images keeps (told-leaves event new.faults old.images new.images old.told new.told call);
+  moments = quiet-told (brought event new) ledger old.images new.images old.told new.told
+      (left_stretch old.told new.told ledger old.images new.images keeps (told-leaves event new.faults old.images new.images old.told new.told call));
   faults = same-faults event (moment_of new.told) new.faults old.faults disk;
 }
 
 -- no call adds nothing
-none-items : (told : Option Told) → IfTold told told (AddsItems [])
-none-items None = tt
-none-items (Some now) = record { trace = sym (append-nil now.trace); placed = tt }
+pub no-items : (old new : Option Told) → IfTold old new (λ before later. later.trace ≡ before.trace) → IfTold old new (AddsItems [])
+no-items old new trace =
+    if_told_map old new (λ before later. later.trace ≡ before.trace) (AddsItems [])
+    (λ x y e. record { trace = e ∙ sym (append-nil x.trace); placed = tt; rising = λ i j d l m. absurd (omega arith) }) trace
+
+none-told : (told : Option Told) → IfTold told told (λ before later. later.trace ≡ before.trace)
+none-told None = tt
+none-told (Some now) = refl
 
 none-leaves : (images : ℕ → Areas → Type 0) (told : Option Told) → IfTold told told (LeavesAreas images images)
 none-leaves images None = tt
@@ -84,34 +168,146 @@ none-leaves images (Some now) = record {
 
 pub adds-none : (ledger : List Change) (view : View) → KeepsLedger ledger view.told view.images → Adds [] ledger [] true view view
 adds-none ledger view keeps = record {
-  trace = none-items view.told;
-  stretch = left_stretch view.told view.told ledger view.images view.images keeps (none-leaves view.images view.told);
+  trace = no-items view.told view.told (none-told view.told);
+  moments = quiet-told [] ledger view.images view.images view.told view.told
+      (left_stretch view.told view.told ledger view.images view.images keeps (none-leaves view.images view.told));
   faults = tt;
 }
 
-items-append : (ledger a b : List Change) (whole : Bool) (first second third : ℕ → Areas → Type 0) (xs ys : List Item) (start middle finish : Option Told)
-    → IfTold start middle (Stretch ledger a true first second) → IfTold middle finish (Stretch (after ledger a) b whole second third)
-    → IfTold start middle (AddsItems xs) → IfTold middle finish (AddsItems ys) → IfTold start finish (AddsItems (xs ++ ys))
-items-append ledger a b whole first second third xs ys start middle None s t m n = tt
-items-append ledger a b whole first second third xs ys start None (Some z) s t m n = absurd t
-items-append ledger a b whole first second third xs ys None (Some y) (Some z) s t m n = absurd s
-items-append ledger a b whole first second third xs ys (Some x) (Some y) (Some z) s t m n =
-    let l = s.later in
-    let k = t.later in
-    record {
-      trace = n.trace ∙ ap (λ items. items ++ ys) m.trace ∙ append_assoc x.trace xs ys;
-      placed = recursion-append (λ (item : Item). (x.moments < item.moments) × (item.moments ≤ z.moments)) xs ys
-          (recursion-weaker (λ (item : Item). (x.moments < item.moments) × (item.moments ≤ y.moments)) (λ item. (x.moments < item.moments) × (item.moments ≤ z.moments)) (λ item h. (h.0, let u = h.1 in omega arith)) xs m.placed)
-          (recursion-weaker (λ (item : Item). (y.moments < item.moments) × (item.moments ≤ z.moments)) (λ item. (x.moments < item.moments) × (item.moments ≤ z.moments)) (λ item h. (let u = h.0 in omega arith, h.1)) ys n.placed);
-    }
+-- ---- a call that changes the ledger
 
--- calls that adjoin add up, where the first were whole
-pub adds-append : (xs ys : List Item) (ledger a b : List Change) (whole : Bool) (first second third : View)
-    → Adds xs ledger a true first second → second.faults ≡ first.faults → Adds ys (after ledger a) b whole second third
-    → Adds (xs ++ ys) ledger (a ++ b) whole first third
-adds-append xs ys ledger a b whole first second third s disk t = record {
-  trace = items-append ledger a b whole first.images second.images third.images xs ys first.told second.told third.told s.stretch t.stretch s.trace t.trace;
-  stretch = stretches_join first.told second.told third.told ledger a b whole first.images second.images third.images s.stretch t.stretch;
-  faults = recursion-append (λ (item : Item). item.faults ≡ first.faults) xs ys s.faults
-      (recursion-weaker (λ (item : Item). item.faults ≡ second.faults) (λ item. item.faults ≡ first.faults) (λ item e. e ∙ disk) ys t.faults);
+-- without items each front of the changes fits
+any-cut : (k : ℕ) (changes : List Change) (n : ℕ) → IsCutAt k [] changes n
+any-cut k changes n = record { changes_before_attempts = inr tt; others_before_changes = inr tt }
+
+change-last : (ledger : List Change) (change : Change) (whole : Bool) (old new : ℕ → Areas → Type 0) (x y : Told) → KeepsLedger ledger (Some x) old → Stretch ledger (change ∷ []) whole old new x y
+    → (image : Areas) → new y.moments image → HoldsFront [] ledger (change ∷ []) (made_of whole (change ∷ [])) y.moments image
+change-last ledger change true old new x y keeps stretch image here =
+    record { count = 1; enough = omega arith; cut = any-cut y.moments (change ∷ []) 1; holds = stretch.all refl image here }
+change-last ledger change false old new x y keeps stretch image here =
+    elim (cases_lt x.moments y.moments) [
+      | inl moved ↦
+          let front = stretch.each y.moments image moved (omega arith) here in
+          record { count = front.0; enough = omega arith; cut = any-cut y.moments (change ∷ []) front.0; holds = front.1 }
+      | inr still ↦
+          let same : y.moments ≡ x.moments = omega (arith, still, stretch.later) in
+          record {
+            count = 0;
+            enough = omega arith;
+            cut = any-cut y.moments (change ∷ []) 0;
+            holds = image_holds ledger x old keeps image ((stretch.past x.moments image (omega arith)).0 (subst (λ (n : ℕ). new n image) same here));
+          }
+    ]
+
+change-moments : (ledger : List Change) (change : Change) (whole : Bool) (old new : ℕ → Areas → Type 0) (x y : Told) → KeepsLedger ledger (Some x) old → Stretch ledger (change ∷ []) whole old new x y
+    → Moments (HoldsFront [] ledger (change ∷ [])) (made_of whole (change ∷ [])) old new x y
+change-moments ledger change whole old new x y keeps stretch = record {
+  later = stretch.later;
+  past = stretch.past;
+  each = λ k image behind upto here.
+      let front = stretch.each k image behind upto here in
+      record { count = front.0; enough = omega arith; cut = any-cut k (change ∷ []) front.0; holds = front.1 };
+  last = change-last ledger change whole old new x y keeps stretch;
 }
+
+change-told : (ledger : List Change) (change : Change) (whole : Bool) (images images' : ℕ → Areas → Type 0) (old new : Option Told) → KeepsLedger ledger old images
+    → IfTold old new (Stretch ledger (change ∷ []) whole images images') → IfTold old new (Moments (HoldsFront [] ledger (change ∷ [])) (made_of whole (change ∷ [])) images images')
+change-told ledger change whole images images' old None keeps stretch = tt
+change-told ledger change whole images images' None (Some y) keeps stretch = absurd stretch
+change-told ledger change whole images images' (Some x) (Some y) keeps stretch = change-moments ledger change whole images images' x y keeps stretch
+
+pub adds-change : (ledger : List Change) (change : Change) (whole : Bool) (old new : View) → KeepsLedger ledger old.told old.images
+    → IfTold old.told new.told (λ before later. later.trace ≡ before.trace)
+    → IfTold old.told new.told (Stretch ledger (change ∷ []) whole old.images new.images) → Adds [] ledger (change ∷ []) whole old new
+adds-change ledger change whole old new keeps trace stretch = record {
+  trace = no-items old.told new.told trace;
+  moments = change-told ledger change whole old.images new.images old.told new.told keeps stretch;
+  faults = tt;
+}
+
+-- ---- calls that adjoin
+
+-- pairs of a list whose first part is low and whose second is high
+pairs-joined : {X : Type 0} (R : X → X → Type 0) (Low High : X → Type 0) → ((a b : X) → Low a → High b → R a b) → (xs ys : List X) → AllPairs R xs → AllPairs R ys → AllByRecursion Low xs → AllByRecursion High ys → AllPairs R (xs ++ ys)
+pairs-joined R Low High over [] ys first second low high = second
+pairs-joined R Low High over (x ∷ xs) ys first second low high =
+    pairs-cons R x (xs ++ ys)
+    (All-append (R x) xs ys (pairs-head R x xs first) (All-from_recursion (R x) ys (recursion-weaker High (R x) (λ y h. over x y low.0 h) ys high)))
+    (pairs-joined R Low High over xs ys (pairs-tail R x xs first) second low.1 high)
+
+pub items-then : (xs ys : List Item) (x y z : Told) → AddsItems xs x y → x.moments ≤ y.moments → AddsItems ys y z → y.moments ≤ z.moments → AddsItems (xs ++ ys) x z
+items-then xs ys x y z m l n k = record {
+  trace = n.trace ∙ ap (λ items. items ++ ys) m.trace ∙ append_assoc x.trace xs ys;
+  placed = recursion-joined (λ (item : Item). (x.moments < item.moments) × (item.moments ≤ z.moments)) xs ys
+      (recursion-weaker (λ (item : Item). (x.moments < item.moments) × (item.moments ≤ y.moments)) (λ item. (x.moments < item.moments) × (item.moments ≤ z.moments)) (λ item h. (h.0, let u = h.1 in omega arith)) xs m.placed)
+      (recursion-weaker (λ (item : Item). (y.moments < item.moments) × (item.moments ≤ z.moments)) (λ item. (x.moments < item.moments) × (item.moments ≤ z.moments)) (λ item h. (let u = h.0 in omega arith, h.1)) ys n.placed);
+  rising = pairs-joined (λ (a b : Item). a.moments < b.moments) (λ item. item.moments ≤ y.moments) (λ item. y.moments < item.moments) (λ a b low high. omega (arith, low, high)) xs ys m.rising n.rising
+      (recursion-weaker (λ (item : Item). (x.moments < item.moments) × (item.moments ≤ y.moments)) (λ item. item.moments ≤ y.moments) (λ item h. h.1) xs m.placed)
+      (recursion-weaker (λ (item : Item). (y.moments < item.moments) × (item.moments ≤ z.moments)) (λ item. y.moments < item.moments) (λ item h. h.0) ys n.placed);
+}
+
+module _ (xs ys : List Item) (ledger a b : List Change) (order : MayStandBefore xs a ys b) where
+  front-later : (least k : ℕ) (image : Areas) → AllByRecursion (λ item. item.moments ≤ k) xs → HoldsFront ys (ledger ++ a) b least k image → HoldsFront (xs ++ ys) ledger (a ++ b) (length a + least) k image
+  front-later least k image done front = record {
+    count = length a + front.count;
+    enough = let l = front.enough in omega (arith, l);
+    cut = cut-later xs ys a b k front.count order done front.cut;
+    holds = subst (λ (held : List Change). HoldsState held image) (append_assoc ledger a (take front.count b) ∙ ap (λ more. ledger ++ more) (sym (take-append-add a b front.count))) front.holds;
+  }
+
+  front-earlier : (k : ℕ) (image : Areas) → AllByRecursion (λ item. k < item.moments) ys → HoldsFront xs ledger a 0 k image → HoldsFront (xs ++ ys) ledger (a ++ b) 0 k image
+  front-earlier k image ahead front = record {
+    count = min front.count (length a);
+    enough = omega arith;
+    cut = cut-earlier xs ys a b k front.count order ahead front.cut;
+    holds = subst (λ (more : List Change). HoldsState (ledger ++ more) image) (sym (take-within front.count a b)) front.holds;
+  }
+
+  front-weaker : (low high k : ℕ) (image : Areas) → low ≤ high → HoldsFront (xs ++ ys) ledger (a ++ b) high k image → HoldsFront (xs ++ ys) ledger (a ++ b) low k image
+  front-weaker low high k image l front = record { count = front.count; enough = let e = front.enough in omega (arith, l, e); cut = front.cut; holds = front.holds }
+
+  made-joined : (whole : Bool) → made_of whole (a ++ b) ≤ length a + made_of whole b
+  made-joined true = let l = length-append a b in omega (arith, l)
+  made-joined false = let l = length-append a b in omega (arith, l)
+
+  moments-then : (whole : Bool) (p q r : ℕ → Areas → Type 0) (x y z : Told) → AddsItems xs x y → AddsItems ys y z
+      → Moments (HoldsFront xs ledger a) (length a) p q x y → Moments (HoldsFront ys (ledger ++ a) b) (made_of whole b) q r y z
+      → Moments (HoldsFront (xs ++ ys) ledger (a ++ b)) (made_of whole (a ++ b)) p r x z
+  moments-then whole p q r x y z m n first second =
+      let done : (k : ℕ) → y.moments ≤ k → AllByRecursion (λ item. item.moments ≤ k) xs =
+      λ k l. recursion-weaker (λ (item : Item). (x.moments < item.moments) × (item.moments ≤ y.moments)) (λ item. item.moments ≤ k) (λ item h. let u = h.1 in omega (arith, u, l)) xs m.placed in
+      let ahead : (k : ℕ) → k ≤ y.moments → AllByRecursion (λ item. k < item.moments) ys =
+      λ k l. recursion-weaker (λ (item : Item). (y.moments < item.moments) × (item.moments ≤ z.moments)) (λ item. k < item.moments) (λ item h. let u = h.0 in omega (arith, u, l)) ys n.placed in
+      record {
+        later = omega (arith, first.later, second.later);
+        past = past_then x.moments y.moments p q r first.later first.past second.past;
+        each = λ k image behind upto left.
+            elim (cases_lt y.moments k) [
+              | inl later ↦ front-weaker 0 (length a + 0) k image (omega arith) (front-later 0 k image (done k (omega (arith, later))) (second.each k image later upto left))
+              | inr before ↦ front-earlier k image (ahead k before) (first.each k image behind before ((second.past k image before).0 left))
+            ];
+        last = λ image left.
+            front-weaker (made_of whole (a ++ b)) (length a + made_of whole b) z.moments image (made-joined whole)
+            (front-later (made_of whole b) z.moments image (done z.moments second.later) (second.last image left));
+      }
+
+  items-told : (whole : Bool) (p q r : ℕ → Areas → Type 0) (s t u : Option Told) → IfTold s t (AddsItems xs) → IfTold t u (AddsItems ys)
+      → IfTold s t (Moments (HoldsFront xs ledger a) (length a) p q) → IfTold t u (Moments (HoldsFront ys (ledger ++ a) b) (made_of whole b) q r)
+      → IfTold s u (AddsItems (xs ++ ys)) × IfTold s u (Moments (HoldsFront (xs ++ ys) ledger (a ++ b)) (made_of whole (a ++ b)) p r)
+  items-told whole p q r s t None m n first second = (tt, tt)
+  items-told whole p q r s None (Some z) m n first second = absurd n
+  items-told whole p q r None (Some y) (Some z) m n first second = absurd m
+  items-told whole p q r (Some x) (Some y) (Some z) m n first second =
+      (items-then xs ys x y z m first.later n second.later, moments-then whole p q r x y z m n first second)
+
+  -- calls that adjoin add up, where the first were whole
+  pub adds-append : (whole : Bool) (first second third : View) → Adds xs ledger a true first second → second.faults ≡ first.faults → Adds ys (after ledger a) b whole second third
+      → Adds (xs ++ ys) ledger (a ++ b) whole first third
+  adds-append whole first second third s disk t =
+      let both = items-told whole first.images second.images third.images first.told second.told third.told s.trace t.trace s.moments t.moments in
+      record {
+        trace = both.0;
+        moments = both.1;
+        faults = recursion-joined (λ (item : Item). item.faults ≡ first.faults) xs ys s.faults
+            (recursion-weaker (λ (item : Item). item.faults ≡ second.faults) (λ item. item.faults ≡ first.faults) (λ item e. e ∙ disk) ys t.faults);
+      }

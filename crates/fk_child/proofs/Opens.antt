@@ -1,25 +1,21 @@
 -- How a crew takes up a record that was just made.
-use Rattle.std.proofs.Common.{◌≡◌, ◌≢◌, ℕ, ◌+◌, ◌<◌, ◌≤◌, Bool, true, false, List, [], ◌∷◌, ◌++◌, map, Ok, Err, Result, refl, sym, ap, ◌∙◌, subst, arith}
-use Rattle.std.specs.List.{All, AllPairs, Contains}
+use Rattle.std.proofs.Common.{◌≡◌, ℕ, Bool, false, List, [], ◌∷◌, ◌++◌, map, Ok, Err, Result, sym, ap, ◌∙◌, subst, arith}
 use Rattle.std.proofs.lemmas.List.{map-append}
-use Rattle.std.proofs.lemmas.List.Elements.{All-weaker, Contains-append_left}
 use Rattle.std.proofs.lemmas.Bool.{false_from_ne_true}
 use Rattle.fk_base.specs.declared.memory.NoMemory.{NoMemory}
 use Rattle.fk_base.specs.declared.purpose.Purpose.{Purpose}
 use Rattle.fk_trace.specs.declared.change.OpenRecord.{OpenRecord}
-use Rattle.fk_trace.specs.declared.change.Change.{Change}
-use Rattle.fk_trace.specs.declared.change.Change.TheVariants.{Open as OpenChange}
 use Rattle.fk_trace.specs.Trace.{Item}
 use Rattle.fk_trace.specs.Orderly.{is_attempted}
 use Rattle.fk_trace.specs.Ledger.{live, next_id}
 use Rattle.fk_trace.proofs.Ledgers.{next_id-push_open}
 use Rattle.fk_run.specs.Place.{Place}
-use Rattle.fk_cycle.specs.Kept.{Kept, is_kept}
+use Rattle.fk_cycle.specs.Kept.{is_kept}
 use Rattle.fk_cycle.specs.Stands.{Obligation, Stands, is_owed}
 use Rattle.fk_cycle.proofs.StandsLemmas.{is_kept-owed}
 use Rattle.fk_ledger.specs.Book.{live_ids}
 use Rattle.fk_child.specs.View.{View}
-use Rattle.fk_child.specs.Crew.{CrewState, CrewHost, IsTied, StandsAt, obligation_of, obligations_but}
+use Rattle.fk_child.specs.Crew.{CrewState, CrewHost, StandsAt, obligation_of, obligations_but}
 use Rattle.fk_child.specs.Calls.{Goes, Attempts, AwaitsOpen, recorded}
 use Rattle.fk_child.proofs.Records.{live-below, owed-live, was-ledger, numbered-next, live-recorded, owed-recorded}
 use Rattle.fk_child.proofs.Ties.{with_host}
@@ -73,11 +69,12 @@ module _ (id due : ℕ) (item : OpenRecord) (place : Place) (crew : CrewState) (
       }
 
 -- what is said of an attempt speaks of the crew after it, and of the host before it
-goes-from : (moment : ℕ) (place : Place) (items : List Item) (crew crew0 : CrewState) (host : View) (new : CrewHost) → Goes moment place items (with_host crew host) new → Goes moment place items (with_host crew0 host) new
-goes-from moment place items crew crew0 host new goes = record { adds = goes.adds; disk = goes.disk; stands = goes.stands }
+goes-from : (count moment : ℕ) (place : Place) (items : List Item) (crew crew0 : CrewState) (host : View) (new : CrewHost) → Goes count moment place items (with_host crew host) new
+    → Goes count moment place items (with_host crew0 host) new
+goes-from count moment place items crew crew0 host new goes = record { calls = goes.calls; adds = goes.adds; disk = goes.disk; stands = goes.stands }
 
 pub attempts-from : (purpose : Purpose) (words : List (List ℕ)) (result : Result Bool NoMemory) (place : Place) (crew crew0 : CrewState) (host : View) (new : CrewHost)
     → Attempts purpose words result place (with_host crew host) new → Attempts purpose words result place (with_host crew0 host) new
 attempts-from purpose words (Ok begun) place crew crew0 host new attempts =
-    (attempts.0, attempts.1, attempts.2, λ moment. goes-from moment place (attempts.0 ∷ []) crew crew0 host new (attempts.3 moment))
-attempts-from purpose words (Err error) place crew crew0 host new attempts = λ moment. goes-from moment place [] crew crew0 host new (attempts moment)
+    (attempts.0, attempts.1, attempts.2, λ moment. goes-from 1 moment place (attempts.0 ∷ []) crew crew0 host new (attempts.3 moment))
+attempts-from purpose words (Err error) place crew crew0 host new attempts = λ moment. goes-from 1 moment place [] crew crew0 host new (attempts moment)

@@ -1,10 +1,9 @@
 -- Lemmas on pieces of lists.
-use Rattle.std.proofs.Common.{◌≡◌, ◌≢◌, ℕ, ◌+◌, ◌<◌, ◌≤◌, zero, suc, Bool, true, false, not, cond, eqb, List, [], ◌∷◌, ◌++◌, length, map, get_or, Some, None, refl, sym, ap, ◌∙◌, subst, arith}
+use Rattle.std.proofs.Common.{◌≡◌, ◌≢◌, ℕ, ◌<◌, zero, suc, Bool, true, false, not, eqb, List, [], ◌∷◌, ◌++◌, length, get_or, Some, refl, sym, ap, ◌∙◌, subst, arith}
 use Rattle.std.specs.Prelude.{slice_get}
 use Rattle.std.specs.List.{filter, All, AllPairs, AllByRecursion, Contains, remove, insert}
-use Rattle.std.proofs.lemmas.List.{length-map, map-append}
 use Rattle.std.proofs.lemmas.List.Elements.{All-head, All-tail, All-cons, All-nil, All-contains, filter-append, Contains-append_right}
-use Rattle.std.proofs.lemmas.Bool.{eqb-true, eq-eqb, ne_eqb}
+use Rattle.std.proofs.lemmas.Bool.{eq-eqb, ne_eqb}
 use Rattle.fk_trace.proofs.Lists.{Contains-head, Contains-tail}
 
 pub pairs-head : {X : Type 0} (R : X → X → Type 0) (x : X) (xs : List X) → AllPairs R (x ∷ xs) → All (R x) xs
@@ -66,10 +65,6 @@ pub slice_get-within : {X : Type 0} (xs : List X) (i : ℕ) (x : X) → slice_ge
 slice_get-within [] i x at = absurd cc
 slice_get-within (y ∷ xs) zero x at = omega arith
 slice_get-within (y ∷ xs) (suc i) x at = let rest = slice_get-within xs i x at in omega arith
-
-pub recursion-append : {X : Type 0} (P : X → Type 0) (xs ys : List X) → AllByRecursion P xs → AllByRecursion P ys → AllByRecursion P (xs ++ ys)
-recursion-append P [] ys h g = g
-recursion-append P (x ∷ xs) ys h g = (h.0, recursion-append P xs ys h.1 g)
 
 pub recursion-weaker : {X : Type 0} (P Q : X → Type 0) → ((x : X) → P x → Q x) → (xs : List X) → AllByRecursion P xs → AllByRecursion Q xs
 recursion-weaker P Q f [] h = tt

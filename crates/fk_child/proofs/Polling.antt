@@ -1,23 +1,22 @@
 -- How the children that run are polled one after another.
-use Rattle.std.proofs.Common.{◌≡◌, ◌≢◌, ℕ, ◌+◌, ◌*◌, ◌<◌, ◌≤◌, zero, suc, Bool, true, List, [], ◌∷◌, ◌++◌, length, Option, Some, None, refl, sym, ap, ◌∙◌, subst, arith, append_assoc, append-nil}
-use Rattle.std.specs.List.{AllZip, AllPairs, cons_option}
+use Rattle.std.proofs.Common.{◌≡◌, ℕ, ◌+◌, ◌*◌, ◌<◌, ◌≤◌, true, List, [], ◌∷◌, ◌++◌, length, Option, Some, None, refl, sym, ap, ◌∙◌, subst, arith, append_assoc, append-nil, inl}
+use Rattle.std.specs.List.{AllZip, cons_option}
 use Rattle.std.proofs.lemmas.List.{length-append, length-map, length_push}
-use Rattle.std.proofs.lemmas.List.Elements.{length_all_zip}
 use Rattle.fk_trace.specs.declared.change.OpenRecord.{OpenRecord}
-use Rattle.fk_trace.specs.Trace.{Event, Item, Child, running, past_after}
+use Rattle.fk_trace.specs.Trace.{Item, Child, running, past_after}
 use Rattle.fk_trace.specs.Idle.{child_numbered, moments_with, ends_after}
 use Rattle.fk_trace.specs.Ledger.{live}
-use Rattle.fk_trace.specs.Attempts.{IsPollOf, PollsEachOnce}
+use Rattle.fk_trace.specs.Attempts.{IsPollOf}
 use Rattle.fk_trace.specs.Settled.{settled_in}
 use Rattle.fk_trace.proofs.Settled.{past_after-append, settled_in-append}
 use Rattle.fk_run.specs.Place.{Place, behind}
 use Rattle.fk_child.specs.declared.items.EndItem.{EndItem}
-use Rattle.fk_child.specs.View.{View, Adds}
-use Rattle.fk_child.specs.Crew.{CrewState, CrewHost, IsTied, StandsAt}
-use Rattle.fk_child.specs.Calls.{Goes, PollsAll, ends_in, end_item, polled_number}
-use Rattle.fk_child.specs.Private.{with_children, StandsPolling, PollsOne, PollsNext, MayPoll, PartlyPolled}
+use Rattle.fk_child.specs.View.{Adds}
+use Rattle.fk_child.specs.Crew.{CrewState, CrewHost, StandsAt}
+use Rattle.fk_child.specs.Calls.{PollsAll, ends_in, end_item, polled_number}
+use Rattle.fk_child.specs.Private.{with_children, StandsPolling, PollsNext, MayPoll, PartlyPolled}
 use Rattle.fk_child.proofs.Counts.{runs-few, owed-few}
-use Rattle.fk_child.proofs.Images.{adds-none, adds-append}
+use Rattle.fk_child.proofs.Images.{adds-none, adds-append, calls-none, calls-then, calls-same}
 use Rattle.fk_child.proofs.Ties.{running-rising}
 
 ends_after-append : (moment : ℕ) (ends : List ℕ) (a b : List Item) → ends_after moment ends (a ++ b) ≡ ends_after moment (ends_after moment ends a) b
@@ -70,6 +69,7 @@ module _ (moment : ℕ) (place : Place) (old : CrewHost) (stands : StandsAt old 
     ran = refl;
     counted = refl;
     answered = tt;
+    calls = calls-none old.host;
     adds = adds-none place.ledger old.host stands.keeps;
     disk = refl;
     stands = record {
@@ -127,7 +127,9 @@ module _ (moment : ℕ) (place : Place) (old : CrewHost) (stands : StandsAt old 
         ran = part.ran ∙ ap (λ (cs : List Child). part.polled ++ cs) left ∙ sym (append_assoc part.polled (child ∷ []) rest);
         counted = let m = part.counted in let n = length_push part.polled child in omega arith;
         answered = AllZip-joined (λ (c : Child) (item : Item). IsPollOf c item.event) part.polled part.items child one.item part.answered one.polled;
-        adds = adds-append part.items (one.item ∷ []) place.ledger [] [] true old.host now.host next.host part.adds part.disk (subst (λ ledger. Adds (one.item ∷ []) ledger [] true now.host next.host) (sym (append-nil place.ledger)) one.adds);
+        calls = calls-same (length part.items + 1) (length (part.items ++ one.item ∷ [])) old.host next.host (let n = length_push part.items one.item in omega (arith, n))
+            (calls-then (length part.items) 1 old.host now.host next.host part.calls one.calls);
+        adds = adds-append part.items (one.item ∷ []) place.ledger [] [] (record { attempts = inl refl; others = inl refl }) true old.host now.host next.host part.adds part.disk (subst (λ ledger. Adds (one.item ∷ []) ledger [] true now.host next.host) (sym (append-nil place.ledger)) one.adds);
         disk = one.disk ∙ part.disk;
         stands = subst (StandsPolling rest one.found next) here one.stands;
         ends = one.ends ∙ ap (λ (es : List EndItem). es ++ ends_in past (one.item ∷ [])) part.ends ∙ sym (ends_in-append place.past part.items (one.item ∷ []));
@@ -161,6 +163,7 @@ module _ (moment : ℕ) (place : Place) (old : CrewHost) (stands : StandsAt old 
           each = λ child. (λ h. h, λ h. h);
         };
         goes = record {
+          calls = part.calls;
           adds = part.adds;
           disk = part.disk;
           stands = subst (λ (cs : List Child). StandsAt (with_children cs now) (behind moment place part.items)) whole at.stands;

@@ -1,8 +1,8 @@
 -- How a child is polled.
-use Rattle.std.proofs.Common.{◌≡◌, ◌≢◌, ℕ, ◌+◌, ◌*◌, ◌<◌, ◌≤◌, Bool, true, false, not, ◌||◌, cond, eqb, List, [], ◌∷◌, ◌++◌, length, map, get_or, Option, Some, None, Ok, Err, refl, sym, ap, ◌∙◌, subst, arith, append_assoc, append-nil}
+use Rattle.std.proofs.Common.{◌≡◌, ◌≢◌, ℕ, ◌+◌, ◌≤◌, Bool, true, false, not, ◌||◌, cond, eqb, List, [], ◌∷◌, ◌++◌, length, map, get_or, Some, None, refl, sym, ap, ◌∙◌, subst, arith, append_assoc, append-nil}
 use Rattle.std.specs.Prelude.{IsTrue}
 use Rattle.std.specs.List.{All, AllPairs, Contains, cons_option, filter, list_any}
-use Rattle.std.proofs.lemmas.List.{length-map, length-append, map-id}
+use Rattle.std.proofs.lemmas.List.{length-append, map-id}
 use Rattle.std.proofs.lemmas.List.Elements.{All-contains, All-append, All-cons, All-head, All-nil, All-weaker, Contains-append_right, Contains-get_or}
 use Rattle.std.proofs.lemmas.List.Folds.{list_any-append}
 use Rattle.std.proofs.lemmas.List.Quantifiers.{all_pairs_push}
@@ -17,7 +17,7 @@ use Rattle.fk_trace.specs.Trace.Event.{Ended, Runs, PollFailed}
 use Rattle.fk_trace.specs.Idle.{child_numbered, is_clean, moments_with}
 use Rattle.fk_trace.specs.Orderly.{is_attempted}
 use Rattle.fk_trace.specs.Ledger.{live}
-use Rattle.fk_trace.specs.Settled.{settled_by, settled_by_child, settled_in}
+use Rattle.fk_trace.specs.Settled.{settled_by, settled_in}
 use Rattle.fk_trace.specs.Attempts.{IsPollOf}
 use Rattle.fk_trace.proofs.Lists.{Contains-head, Contains-map, list_any-none, filter-map, map-step}
 use Rattle.fk_trace.proofs.Ledgers.{filter-filter}
@@ -27,17 +27,16 @@ use Rattle.fk_cycle.specs.declared.act.Act.{Act}
 use Rattle.fk_cycle.specs.declared.act.Act.TheVariants as act
 use Rattle.fk_cycle.specs.Acts.{act_at, owed_after}
 use Rattle.fk_cycle.specs.Kept.{Kept, has_running}
-use Rattle.fk_cycle.specs.Stands.{Obligation, Stands, kept_of, record_of, is_owed, without}
+use Rattle.fk_cycle.specs.Stands.{Obligation, Stands, kept_of, record_of, is_owed}
 use Rattle.fk_cycle.proofs.StandsLemmas.{runs-kept}
 use Rattle.fk_host.specs.Disk.{Above, IfTold}
 use Rattle.fk_host.specs.Host.{Brings, above_after, is_running}
 use Rattle.fk_ledger.specs.Book.{live_ids}
-use Rattle.fk_child.specs.declared.items.EndItem.{EndItem}
 use Rattle.fk_child.specs.declared.items.PollEnd.TheVariants.{Good, Bad, Failed as FailedPoll}
 use Rattle.fk_child.specs.View.{View}
-use Rattle.fk_child.specs.Crew.{CrewState, IsTied, StandsAt, obligation_of, obligations_but}
-use Rattle.fk_child.specs.Calls.{Goes, ends_in}
-use Rattle.fk_child.specs.Private.{settled_of, with_children, StandsPolling, PollsOne, MayPoll}
+use Rattle.fk_child.specs.Crew.{CrewState, IsTied, obligation_of, obligations_but}
+use Rattle.fk_child.specs.Calls.{ends_in}
+use Rattle.fk_child.specs.Private.{settled_of, StandsPolling, PollsOne}
 use Rattle.fk_child.proofs.Counts.{few}
 use Rattle.fk_child.proofs.Records.{owed-live}
 use Rattle.fk_child.proofs.Ties.{with_host, item_after, tied-same, tied-ended, goes-item}
@@ -168,6 +167,7 @@ module _ (moment : ℕ) (place : Place) (child : Child) (rest found : List Child
       record {
         item = item_after event new;
         polled = polled;
+        calls = goes.calls;
         adds = goes.adds;
         disk = disk;
         found = found ++ child ∷ [];
@@ -243,6 +243,7 @@ module _ (moment : ℕ) (place : Place) (child : Child) (rest found : List Child
         record {
           item = item;
           polled = refl;
+          calls = goes.calls;
           adds = goes.adds;
           disk = disk;
           found = found;

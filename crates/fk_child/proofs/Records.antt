@@ -1,5 +1,5 @@
 -- The live records of a ledger, and what is owed for them.
-use Rattle.std.proofs.Common.{◌≡◌, ◌≢◌, ℕ, ◌+◌, ◌<◌, ◌≤◌, Bool, true, false, not, ◌||◌, cond, eqb, List, [], ◌∷◌, ◌++◌, length, take, drop, map, suc, get_or, Option, Some, None, refl, sym, ap, ◌∙◌, subst, arith, append_assoc, append-nil, inl, inr}
+use Rattle.std.proofs.Common.{◌≡◌, ◌≢◌, ℕ, ◌+◌, ◌<◌, Bool, true, false, not, cond, eqb, List, [], ◌∷◌, ◌++◌, length, take, drop, map, suc, get_or, Some, None, refl, sym, ap, ◌∙◌, subst, arith, append_assoc, append-nil, inl, inr}
 use Rattle.std.specs.Prelude.{find}
 use Rattle.std.specs.List.{All, AllPairs, AllByRecursion, Contains, filter, list_any}
 use Rattle.std.proofs.lemmas.List.{length_push, length-map, get_or-map, map-append, take-append-drop, take_more}

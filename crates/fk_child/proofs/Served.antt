@@ -1,7 +1,5 @@
 -- What stands from one call of a served turn to the next.
-use Rattle.std.proofs.Common.{◌≡◌, ℕ, false, List, [], ◌∷◌, ◌++◌, Bool, Ok, Err, Some, None, Result, Option, refl, sym, ap, ◌∙◌, subst}
-use Rattle.fk_base.specs.declared.purpose.Purpose.{Purpose}
-use Rattle.fk_base.specs.declared.purpose.Purpose.TheVariants.{Open}
+use Rattle.std.proofs.Common.{◌≡◌, ℕ, false, List, [], ◌∷◌, Bool, Ok, Some, refl, sym, ap, ◌∙◌, subst}
 use Rattle.fk_trace.specs.declared.change.OpenRecord.{OpenRecord}
 use Rattle.fk_trace.specs.declared.change.Change.{Change}
 use Rattle.fk_trace.specs.declared.change.Change.TheVariants.{Open as OpenChange, Done}
@@ -12,8 +10,8 @@ use Rattle.fk_ledger.specs.Book.{Book}
 use Rattle.fk_ledger.specs.Holds.{KeepsLedger}
 use Rattle.fk_child.specs.declared.items.Tried.{Tried}
 use Rattle.fk_child.specs.View.{View}
-use Rattle.fk_child.specs.Crew.{CrewState, CrewHost, IsTied, StandsAt, StandsSomewhere, StandsOver}
-use Rattle.fk_child.specs.Calls.{AtEach, AtEachOver, MarksTurn, PollsAll, SettlesNext, StartsClose, Attempts, AwaitsOpen, StartsOpen, recorded}
+use Rattle.fk_child.specs.Crew.{CrewState, CrewHost, IsTied, StandsSomewhere, StandsOver}
+use Rattle.fk_child.specs.Calls.{AtEach, AtEachOver, MarksTurn, PollsAll, SettlesNext, StartsClose, AwaitsOpen, StartsOpen, recorded}
 use Rattle.fk_child.specs.Private.{MayServe}
 use Rattle.fk_child.proofs.Ties.{with_host}
 

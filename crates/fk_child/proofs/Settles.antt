@@ -1,8 +1,7 @@
 -- How a record is settled.
-use Rattle.std.proofs.Common.{◌≡◌, ◌≢◌, ℕ, ◌+◌, ◌<◌, ◌≤◌, zero, suc, Bool, true, false, not, ◌||◌, cond, eqb, List, [], ◌∷◌, ◌++◌, length, map, get_or, Option, Some, None, refl, sym, ap, ◌∙◌, subst, arith, append-nil}
+use Rattle.std.proofs.Common.{◌≡◌, ◌≢◌, ℕ, ◌+◌, zero, suc, Bool, true, false, not, ◌||◌, eqb, List, [], ◌∷◌, ◌++◌, length, map, get_or, Some, refl, sym, ap, ◌∙◌, subst, arith}
 use Rattle.std.specs.Prelude.{slice_get}
 use Rattle.std.specs.List.{All, AllPairs, Contains, filter, list_any, remove}
-use Rattle.std.proofs.lemmas.List.{length-map, get_or-map}
 use Rattle.std.proofs.lemmas.List.Elements.{All-contains, All-head, All-map}
 use Rattle.fk_trace.specs.declared.change.OpenRecord.{OpenRecord}
 use Rattle.fk_trace.specs.declared.change.Change.{Change}
@@ -13,15 +12,16 @@ use Rattle.fk_trace.proofs.Ledgers.{filter-filter, live-push_done, opens-push_do
 use Rattle.fk_run.specs.Place.{Place, changed}
 use Rattle.fk_run.proofs.Ledgers.{live-kept_done}
 use Rattle.fk_cycle.specs.Stands.{Obligation, Stands}
-use Rattle.fk_host.specs.Disk.{Areas, Told, Above, IfTold}
+use Rattle.fk_host.specs.Disk.{Above, IfTold}
 use Rattle.fk_host.specs.Count.{counted}
 use Rattle.fk_ledger.specs.Book.{Book, live_ids}
 use Rattle.fk_ledger.specs.Holds.{KeepsLedger}
 use Rattle.fk_ledger.specs.Stretch.{Stretch}
-use Rattle.fk_child.specs.View.{View, AddsItems, Adds}
+use Rattle.fk_child.specs.View.{View, MakesCalls, Adds}
 use Rattle.fk_child.specs.Crew.{CrewState, IsTied, StandsAt, obligation_of, obligations_but}
 use Rattle.fk_child.specs.Calls.{SettlesFirst, FailsToSettle}
 use Rattle.fk_child.proofs.Pieces.{pairs-head, pairs-tail, remove-distinct}
+use Rattle.fk_child.proofs.Images.{adds-change}
 use Rattle.fk_child.proofs.Counts.{pairs-cons}
 use Rattle.fk_child.proofs.Records.{live-apart}
 use Rattle.fk_child.proofs.Ties.{with_host}
@@ -79,39 +79,30 @@ module _ (crew : CrewState) (above : Above) (place : Place) (tied : IsTied crew 
         below = tied.below;
       }
 
--- calls of the disk alone add no item
-no-items : (ledger changes : List Change) (whole : Bool) (images images' : ℕ → Areas → Type 0) (old new : Option Told)
-    → IfTold old new (λ before later. later.trace ≡ before.trace) → IfTold old new (AddsItems [])
-no-items ledger changes whole images images' old None trace = tt
-no-items ledger changes whole images images' None (Some later) trace = absurd trace
-no-items ledger changes whole images images' (Some before) (Some later) trace = record { trace = trace ∙ sym (append-nil before.trace); placed = tt }
-
-pub adds-changes : (ledger changes : List Change) (whole : Bool) (old new : View) → IfTold old.told new.told (λ before later. later.trace ≡ before.trace)
-    → IfTold old.told new.told (Stretch ledger changes whole old.images new.images) → Adds [] ledger changes whole old new
-adds-changes ledger changes whole old new trace stretch =
-    record { trace = no-items ledger changes whole old.images new.images old.told new.told trace; stretch = stretch; faults = tt }
-
 module _ (crew crew' : CrewState) (old new : View) (place : Place) (book book' : Book) (id owed : ℕ) (e : place.ledger ≡ book.changes) (same : owed ≡ id)
     (trace : IfTold old.told new.told (λ before later. later.trace ≡ before.trace)) where
-  adds-settled : (whole : Bool) → IfTold old.told new.told (Stretch book.changes (Done owed ∷ []) whole old.images new.images) → Adds [] place.ledger (Done id ∷ []) whole old new
-  adds-settled whole stretch =
+  adds-settled : (whole : Bool) → KeepsLedger place.ledger old.told old.images → IfTold old.told new.told (Stretch book.changes (Done owed ∷ []) whole old.images new.images)
+      → Adds [] place.ledger (Done id ∷ []) whole old new
+  adds-settled whole keeps stretch =
       subst (λ (n : ℕ). Adds [] place.ledger (Done n ∷ []) whole old new) same
-      (subst (λ (l : List Change). Adds [] l (Done owed ∷ []) whole old new) (sym e) (adds-changes book.changes (Done owed ∷ []) whole old new trace stretch))
+      (adds-change place.ledger (Done owed) whole old new keeps trace
+      (subst (λ (l : List Change). IfTold old.told new.told (Stretch l (Done owed ∷ []) whole old.images new.images)) (sym e) stretch))
 
   -- the first of the records is settled
   pub settles-first : (index : ℕ) (others : List ℕ) → StandsAt (with_host crew old) place → crew.unsettled ≡ id ∷ others → slice_get crew.owed index ≡ Some id
       → crew'.owed ≡ remove crew.owed index → crew'.children ≡ crew.children → crew'.kept ≡ crew.kept → crew'.unsettled ≡ others
       → book' ≡ record book { changes = after book.changes (Done owed ∷ []) } → KeepsLedger book'.changes new.told new.images
-      → IfTold old.told new.told (Stretch book.changes (Done owed ∷ []) true old.images new.images) → new.above ≡ old.above → new.faults ≡ old.faults
+      → IfTold old.told new.told (Stretch book.changes (Done owed ∷ []) true old.images new.images) → new.above ≡ old.above → new.faults ≡ old.faults → MakesCalls 4 old new
       → SettlesFirst id book book' place (with_host crew old) (with_host crew' new)
-  settles-first index others at first placed owes holds keeps waits changes kept stretch above disk =
+  settles-first index others at first placed owes holds keeps waits changes kept stretch above disk calls =
       let changes' : book' ≡ record book { changes = after book.changes (Done id ∷ []) } =
       changes ∙ ap (λ (n : ℕ). let b : Book = record book { changes = after book.changes (Done n ∷ []) } in b) same in
       let ledger : book'.changes ≡ (changed place (Done id ∷ [])).ledger = ap (λ (b : Book). b.changes) changes' ∙ ap (λ (l : List Change). after l (Done id ∷ [])) (sym e) in
       record {
         first = first ∙ ap (λ (ids : List ℕ). id ∷ ids) (sym waits);
         book = changes';
-        adds = adds-settled true stretch;
+        calls = calls;
+        adds = adds-settled true at.keeps stretch;
         disk = disk;
         stands = record {
           tied = subst (λ (a : Above). IsTied crew' a (changed place (Done id ∷ []))) (sym above)
@@ -121,17 +112,17 @@ module _ (crew crew' : CrewState) (old new : View) (place : Place) (book book' :
       }
 
   -- the disk failed
-  pub fails-to-settle : (others : List ℕ) → crew.unsettled ≡ id ∷ others → crew' ≡ record crew { unsettled = others } → book' ≡ record book { is_spent = true }
+  pub fails-to-settle : (others : List ℕ) → StandsAt (with_host crew old) place → crew.unsettled ≡ id ∷ others → crew' ≡ record crew { unsettled = others } → book' ≡ record book { is_spent = true }
       → IfTold old.told new.told (Stretch book.changes (Done owed ∷ []) false old.images new.images) → new.above ≡ old.above → new.faults ≡ counted old.faults
       → FailsToSettle book book' place (with_host crew old) (with_host crew' new)
-  fails-to-settle others first is spent stretch above disk =
+  fails-to-settle others at first is spent stretch above disk =
       let waits : crew'.unsettled ≡ others = ap (λ (s : CrewState). s.unsettled) is in
       record {
         id = id;
         first = first ∙ ap (λ (ids : List ℕ). id ∷ ids) (sym waits);
         crew = is ∙ ap (λ (ids : List ℕ). let s : CrewState = record crew { unsettled = ids } in s) (sym waits);
         book = spent;
-        adds = adds-settled false stretch;
+        adds = adds-settled false at.keeps stretch;
         disk = disk;
         above = above;
       }

@@ -1,30 +1,27 @@
 -- How a crew starts a child.
-use Rattle.std.proofs.Common.{◌≡◌, ◌≢◌, ℕ, ◌+◌, ◌*◌, ◌<◌, ◌≤◌, Bool, true, false, not, ◌||◌, eqb, List, [], ◌∷◌, ◌++◌, length, map, Option, Some, None, Ok, Err, refl, sym, ap, ◌∙◌, subst, arith, append_assoc, append-nil}
-use Rattle.std.specs.List.{All, Contains, filter, list_any}
+use Rattle.std.proofs.Common.{◌≡◌, ℕ, ◌+◌, ◌*◌, ◌<◌, ◌≤◌, true, false, List, [], ◌∷◌, ◌++◌, length, map, Some, None, Ok, Err, refl, sym, ap, ◌∙◌, subst, arith, append-nil}
+use Rattle.std.specs.List.{All, list_any}
 use Rattle.std.proofs.lemmas.List.{length_push, length-map}
-use Rattle.std.proofs.lemmas.List.Elements.{All-contains, All-weaker, All-push, All-nil, Contains-push, filter_passes}
-use Rattle.std.proofs.lemmas.Bool.{eqb-true, ne_eqb, not-true}
+use Rattle.std.proofs.lemmas.List.Elements.{All-contains, All-weaker, Contains-push}
+use Rattle.std.proofs.lemmas.Bool.{ne_eqb}
 use Rattle.fk_base.specs.declared.memory.NoMemory.{NoMemory}
 use Rattle.fk_base.specs.declared.purpose.Purpose.{Purpose}
 use Rattle.fk_base.specs.declared.purpose.Purpose.TheVariants.{Open, Close}
 use Rattle.fk_trace.specs.declared.change.OpenRecord.{OpenRecord}
 use Rattle.fk_trace.specs.declared.change.Change.{Change}
-use Rattle.fk_trace.specs.declared.change.Change.TheVariants.{Open as OpenChange, Done}
-use Rattle.fk_trace.specs.Trace.{Item, Child, children, running}
+use Rattle.fk_trace.specs.Trace.{Child, children, running}
 use Rattle.fk_trace.specs.Trace.Event.{Began, StartFailed}
-use Rattle.fk_trace.specs.Ledger.{opens, live, next_id, MayFollow, IsLedgerFrom, IsLedger}
+use Rattle.fk_trace.specs.Ledger.{live, next_id, IsLedger}
 use Rattle.fk_trace.specs.Orderly.{is_of_record}
-use Rattle.fk_trace.proofs.Lists.{Contains-filter, Contains-unmap, list_any-at}
-use Rattle.fk_trace.proofs.Ledgers.{opens-push_done, opens-push_open}
 use Rattle.fk_run.specs.Place.{Place, behind}
-use Rattle.fk_cycle.specs.Kept.{Kept, may_begin, noted_begun}
-use Rattle.fk_cycle.specs.Stands.{Obligation, Stands, record_of, is_owed}
+use Rattle.fk_cycle.specs.Kept.{may_begin, noted_begun}
+use Rattle.fk_cycle.specs.Stands.{Stands, record_of, is_owed}
 use Rattle.fk_cycle.proofs.StandsLemmas.{Stands-began}
 use Rattle.fk_host.specs.Disk.{Above, IfTold}
 use Rattle.fk_host.specs.Host.{Brings, above_after}
 use Rattle.fk_child.specs.View.{View}
-use Rattle.fk_child.specs.Crew.{CrewState, IsTied, StandsAt, obligation_of, obligations_but}
-use Rattle.fk_child.specs.Calls.{Goes, Attempts}
+use Rattle.fk_child.specs.Crew.{CrewState, IsTied, StandsAt, obligations_but}
+use Rattle.fk_child.specs.Calls.{Attempts}
 use Rattle.fk_child.proofs.Records.{live-below, owed-live}
 use Rattle.fk_child.proofs.Counts.{runs-few, owed-few}
 use Rattle.fk_child.proofs.Ties.{with_host, item_after, tied-same, tied-began, goes-item, goes-nothing}

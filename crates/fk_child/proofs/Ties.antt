@@ -1,5 +1,5 @@
 -- How the tie of a crew to a place goes on over one item more.
-use Rattle.std.proofs.Common.{◌≡◌, ◌≢◌, ℕ, ◌+◌, ◌<◌, ◌≤◌, Bool, true, false, not, ◌||◌, eqb, List, [], ◌∷◌, ◌++◌, length, map, get_or, Option, Some, None, refl, sym, ap, ◌∙◌, subst, arith, append_assoc, append-nil, inl, inr}
+use Rattle.std.proofs.Common.{◌≡◌, ◌≢◌, ℕ, ◌<◌, ◌≤◌, Bool, true, false, not, eqb, List, [], ◌∷◌, ◌++◌, get_or, Some, None, refl, sym, ap, ◌∙◌, subst, arith, append-nil, inl, inr}
 use Rattle.std.specs.Prelude.{IsTrue, is_some}
 use Rattle.std.specs.List.{All, AllPairs, Contains, filter, list_any}
 use Rattle.std.proofs.lemmas.List.Elements.{All-append, All-push, All-weaker, All-contains, Contains-get_or, Contains-append_cases, Contains-append_left, Contains-append_right}
@@ -17,7 +17,6 @@ use Rattle.fk_trace.proofs.Lists.{list_any-find, find-filter_kept, All-by, Conta
 use Rattle.fk_trace.proofs.Running.{running-children}
 use Rattle.fk_trace.proofs.Splits.{AllPairs-front}
 use Rattle.fk_run.specs.Place.{Place, behind}
-use Rattle.fk_cycle.specs.Kept.{Kept}
 use Rattle.fk_cycle.specs.Stands.{Stands}
 use Rattle.fk_host.specs.Disk.{Above, IfTold}
 use Rattle.fk_host.specs.Host.{Brings, above_after, is_running}
@@ -26,7 +25,7 @@ use Rattle.fk_child.specs.View.{View}
 use Rattle.fk_child.specs.Crew.{CrewState, CrewHost, IsTied, StandsAt, obligations_but}
 use Rattle.fk_child.specs.Calls.{Goes, MarksTurn}
 use Rattle.fk_child.proofs.Pieces.{pairs-before, pairs-behind, filter-but}
-use Rattle.fk_child.proofs.Images.{moment_of, brought, adds-brought, told-keeps}
+use Rattle.fk_child.proofs.Images.{moment_of, adds-brought, calls-once, told-keeps}
 
 -- the crew with this host
 abbrev pub with_host : CrewState → View → CrewHost
@@ -176,8 +175,9 @@ tied-ended crew crew' above moment place number purpose good moments faults foun
 pub goes-item : (event : Event) (moment : ℕ) (place : Place) (crew crew' : CrewState) (old new : View)
     → IfTold old.told new.told (Brings (Some event) new.faults old.images new.images) → new.faults ≡ old.faults
     → StandsAt (with_host crew old) place → IsTied crew' new.above (behind moment place (item_after event new ∷ []))
-    → Goes moment place (item_after event new ∷ []) (with_host crew old) (with_host crew' new)
+    → Goes 1 moment place (item_after event new ∷ []) (with_host crew old) (with_host crew' new)
 goes-item event moment place crew crew' old new call disk stands tied = record {
+  calls = calls-once (Some event) old new call;
   adds = adds-brought (Some event) place.ledger old new call disk stands.keeps;
   disk = disk;
   stands = record { tied = tied; keeps = told-keeps (Some event) new.faults place.ledger old.images new.images old.told new.told call stands.keeps };
@@ -186,8 +186,9 @@ goes-item event moment place crew crew' old new call disk stands tied = record {
 pub goes-nothing : (moment : ℕ) (place : Place) (crew crew' : CrewState) (old new : View)
     → IfTold old.told new.told (Brings None new.faults old.images new.images) → new.faults ≡ old.faults
     → StandsAt (with_host crew old) place → IsTied crew' new.above place
-    → Goes moment place [] (with_host crew old) (with_host crew' new)
+    → Goes 1 moment place [] (with_host crew old) (with_host crew' new)
 goes-nothing moment place crew crew' old new call disk stands tied = record {
+  calls = calls-once None old new call;
   adds = adds-brought None place.ledger old new call disk stands.keeps;
   disk = disk;
   stands = record { tied = tied; keeps = told-keeps None new.faults place.ledger old.images new.images old.told new.told call stands.keeps };

@@ -1,13 +1,12 @@
 -- The closes of a turn: those that are due next, one after another.
-use Rattle.std.proofs.Common.{◌≡◌, ◌≢◌, ℕ, ◌+◌, ◌<◌, ◌≤◌, Bool, true, false, not, ◌&&◌, ◌||◌, nat_lt, nat_le, eqb, List, [], ◌∷◌, ◌++◌, map, Option, Some, None, refl, sym, ap, ◌∙◌, subst, arith, inl, inr}
-use Rattle.std.specs.List.{All, AllPairs, AllZip, Contains, filter, list_any}
+use Rattle.std.proofs.Common.{◌≡◌, ℕ, ◌≤◌, Bool, true, false, not, ◌&&◌, ◌||◌, nat_lt, nat_le, eqb, List, [], ◌∷◌, refl, sym, ap, ◌∙◌, subst, arith, inl, inr}
+use Rattle.std.specs.List.{AllPairs, AllZip, Contains}
 use Rattle.std.proofs.lemmas.List.Elements.{All-contains}
 use Rattle.std.proofs.lemmas.List.Folds.{list_any-append}
-use Rattle.std.proofs.lemmas.Bool.{eqb-true, eqb-false, eq-eqb, ne_eqb, ltb-false, le-leb, and_parts, and_from, and_cases, or_parts, not-true, not_from_false, cases_order, cases_Bool}
+use Rattle.std.proofs.lemmas.Bool.{eqb-true, eqb-false, ltb-false, le-leb, and_parts, and_from, and_cases, or_parts, not-true, not_from_false, cases_order, cases_Bool}
 use Rattle.fk_base.specs.declared.purpose.Purpose.{Purpose}
 use Rattle.fk_base.specs.declared.purpose.Purpose.TheVariants.{Close}
 use Rattle.fk_trace.specs.declared.change.OpenRecord.{OpenRecord}
-use Rattle.fk_trace.specs.declared.change.Change.{Change}
 use Rattle.fk_trace.specs.Trace.{Event, Item, Child, running, open_runs, close_runs, close_tried, is_open_of, is_close_of}
 use Rattle.fk_trace.specs.Trace.Event.{Turn, Began, StartFailed, Ended, Runs, PollFailed}
 use Rattle.fk_trace.specs.Idle.{is_idle, last_close, ended_well, rests, moments_with}
@@ -15,12 +14,12 @@ use Rattle.fk_trace.specs.Ledger.{live, IsLedger}
 use Rattle.fk_trace.specs.Attempts.{IsAttempt, Precedes}
 use Rattle.fk_trace.proofs.Lists.{Contains-head, Contains-tail, Contains-cases, Contains-map, Contains-unmap, All-by}
 use Rattle.fk_run.specs.Place.{Place, behind}
-use Rattle.fk_run.specs.Turn.{IsDueIdle, AttemptsEachDue}
+use Rattle.fk_run.specs.Turn.{AttemptsEachDue}
 use Rattle.fk_run.proofs.Ledgers.{live-one}
-use Rattle.fk_cycle.specs.Stands.{Obligation, is_due, precedes, IsNextDue}
+use Rattle.fk_cycle.specs.Stands.{Obligation, is_due, precedes}
 use Rattle.fk_cycle.proofs.DueLemmas.{is_due-not_begun}
 use Rattle.fk_child.specs.Crew.{obligation_of, obligations_but}
-use Rattle.fk_child.specs.Calls.{IsNextClose, NoneIsDue, NoneTried, AttemptsInTurn}
+use Rattle.fk_child.specs.Calls.{IsNextClose, NoneTried, AttemptsInTurn}
 use Rattle.fk_child.proofs.Counts.{pairs-cons}
 use Rattle.fk_child.proofs.Records.{owed-all}
 use Rattle.fk_child.proofs.Closes.{due-parts}

@@ -1,5 +1,5 @@
 -- What each call of a crew does at the place where it stands.
-use Rattle.std.specs.Prelude.{◌≡◌, ℕ, Bool, true, false, List, [], ◌∷◌, Option, Some, None, Result, Ok, Err, if◌then◌else◌}
+use Rattle.std.specs.Prelude.{◌≡◌, ℕ, Bool, true, false, List, [], ◌∷◌, length, Option, Some, None, Result, Ok, Err, if◌then◌else◌}
 use Rattle.std.specs.List.{cons_option, Contains}
 use Rattle.fk_base.specs.declared.memory.Failed.{Failed}
 use Rattle.fk_base.specs.declared.memory.NoMemory.{NoMemory}
@@ -9,7 +9,7 @@ use Rattle.fk_trace.specs.declared.change.OpenRecord.{OpenRecord}
 use Rattle.fk_trace.specs.declared.change.Change.{Change}
 use Rattle.fk_trace.specs.declared.change.Change.TheVariants.{Open as OpenChange, Done}
 use Rattle.fk_trace.specs.Trace.{Event, Item, Child, close_tried}
-use Rattle.fk_trace.specs.Trace.Event.{Turn, Began, StartFailed, Ended, Runs, PollFailed}
+use Rattle.fk_trace.specs.Trace.Event.{Turn, Began, Ended, PollFailed}
 use Rattle.fk_trace.specs.Idle.{child_numbered}
 use Rattle.fk_trace.specs.Ledger.{live, after}
 use Rattle.fk_trace.specs.Settled.{settled_in}
@@ -22,7 +22,7 @@ use Rattle.fk_ledger.specs.Holds.{KeepsLedger}
 use Rattle.fk_child.specs.declared.items.EndItem.{EndItem}
 use Rattle.fk_child.specs.declared.items.PollEnd.TheVariants.{Good, Bad, Failed as FailedPoll}
 use Rattle.fk_child.specs.declared.items.Tried.{Tried}
-use Rattle.fk_child.specs.View.{Adds}
+use Rattle.fk_child.specs.View.{MakesCalls, Adds}
 use Rattle.fk_child.specs.Crew.{CrewHost, IsTied, StandsAt, obligations_but}
 
 -- At each place where the crew stood before a call, this is what the call did.
@@ -33,9 +33,10 @@ AtEach Does old new = (place : Place) → StandsAt old place → Does place old 
 abbrev pub AtEachOver : List Change → (Place → CrewHost → CrewHost → Type 0) → CrewHost → CrewHost → Type 0
 AtEachOver ledger Does old new = (place : Place) → place.ledger ≡ ledger → StandsAt old place → Does place old new
 
--- Calls have led from the place to the one behind these items of a turn with this moment. The ledger and the disk's count of faults
--- are as before.
-pub record Goes (moment : ℕ) (place : Place) (items : List Item) (old new : CrewHost) : Type 0 where
+-- So many calls have led from the place to the one behind these items of a turn with this moment. The ledger and the disk's count of
+-- faults are as before.
+pub record Goes (count moment : ℕ) (place : Place) (items : List Item) (old new : CrewHost) : Type 0 where
+  pub calls : MakesCalls count old.host new.host
   pub adds : Adds items place.ledger [] true old.host new.host
   pub disk : new.host.faults ≡ old.host.faults
   pub stands : StandsAt new (behind moment place items)
@@ -44,7 +45,7 @@ pub record Goes (moment : ℕ) (place : Place) (items : List Item) (old new : Cr
 pub record MarksTurn (number : ℕ) (place : Place) (old new : CrewHost) : Type 0 where
   pub item : Item
   pub event : item.event ≡ Turn number
-  pub goes : (moment : ℕ) → Goes moment place (item ∷ []) old new
+  pub goes : (moment : ℕ) → Goes 1 moment place (item ∷ []) old new
 
 -- what a poll's event is told as, where its child is this
 abbrev pub end_item : Event → Option Child → Option EndItem
@@ -68,7 +69,7 @@ ends_in past (item ∷ items) = cons_option (end_item item.event (child_numbered
 pub record PollsAll (moment : ℕ) (place : Place) (old new : CrewHost) : Type 0 where
   pub items : List Item
   pub polled : PollsEachOnce place.past items
-  pub goes : Goes moment place items old new
+  pub goes : Goes (length items) moment place items old new
   pub ends : new.crew.ends ≡ ends_in place.past items
   pub unsettled : new.crew.unsettled ≡ settled_in place.past items
 
@@ -76,6 +77,7 @@ pub record PollsAll (moment : ℕ) (place : Place) (old new : CrewHost) : Type 0
 pub record SettlesFirst (id : ℕ) (old_book new_book : Book) (place : Place) (old new : CrewHost) : Type 0 where
   pub first : old.crew.unsettled ≡ id ∷ new.crew.unsettled
   pub book : new_book ≡ record old_book { changes = after old_book.changes (Done id ∷ []) }
+  pub calls : MakesCalls 4 old.host new.host
   pub adds : Adds [] place.ledger (Done id ∷ []) true old.host new.host
   pub disk : new.host.faults ≡ old.host.faults
   pub stands : StandsAt new (changed place (Done id ∷ []))
@@ -100,12 +102,12 @@ abbrev pub is_begun : Event → Bool
 is_begun (Began number purpose words) = true
 is_begun event = false
 
--- one attempt is made to start a child for this purpose and with these words, or none for want of memory
+-- By one call of the host an attempt is made to start a child for this purpose and with these words, or none for want of memory.
 abbrev pub Attempts : Purpose → List (List ℕ) → Result Bool NoMemory → Place → CrewHost → CrewHost → Type 0
 Attempts purpose words (Ok begun) place old new =
     (attempt : Item) × IsAttempt purpose words attempt.event × (begun ≡ is_begun attempt.event)
-    × ((moment : ℕ) → Goes moment place (attempt ∷ []) old new)
-Attempts purpose words (Err error) place old new = (moment : ℕ) → Goes moment place [] old new
+    × ((moment : ℕ) → Goes 1 moment place (attempt ∷ []) old new)
+Attempts purpose words (Err error) place old new = (moment : ℕ) → Goes 1 moment place [] old new
 
 -- the place with the record that was made
 abbrev pub recorded : Place → OpenRecord → Place
@@ -149,7 +151,7 @@ abbrev pub StartsClose : ℕ → Result (Option Tried) NoMemory → Place → Cr
 StartsClose moment (Ok None) place old new = NoneIsDue moment place × (new.crew ≡ old.crew)
 StartsClose moment (Ok (Some tried)) place old new = TriesNext moment tried place old new
 StartsClose moment (Err error) place old new =
-    ((closing : OpenRecord) × IsNextClose moment place closing) × ((later : ℕ) → Goes later place [] old new)
+    ((closing : OpenRecord) × IsNextClose moment place closing) × ((later : ℕ) → Goes 1 later place [] old new)
 
 -- no close was attempted since the last turn began
 abbrev pub NoneTried : List Item → Type 0

@@ -10,7 +10,7 @@ use Rattle.fk_cycle.specs.declared.act.Act.{Act}
 use Rattle.fk_cycle.specs.declared.act.Act.TheVariants.{Nothing, Wait, Settle}
 use Rattle.fk_ledger.specs.Book.{Book}
 use Rattle.fk_child.specs.declared.crew.Crew.TheInside.{Inside}
-use Rattle.fk_child.specs.View.{Adds}
+use Rattle.fk_child.specs.View.{MakesCalls, Adds}
 use Rattle.fk_child.specs.Crew.{CrewState, CrewHost, StandsAt, StandsOver}
 use Rattle.fk_child.specs.Calls.{ends_in}
 
@@ -52,6 +52,7 @@ pub record StandsPolling (rest found : List Child) (both : CrewHost) (place : Pl
 pub record PollsOne (moment : ℕ) (child : Child) (rest : List Child) (place : Place) (old new : CrewHost) : Type 0 where
   pub item : Item
   pub polled : IsPollOf child item.event
+  pub calls : MakesCalls 1 old.host new.host
   pub adds : Adds (item ∷ []) place.ledger [] true old.host new.host
   pub disk : new.host.faults ≡ old.host.faults
   pub found : List Child
@@ -83,6 +84,7 @@ pub record PartlyPolled (moment count : ℕ) (place : Place) (old new : CrewHost
   pub ran : running place.past ≡ polled ++ rest
   pub counted : length polled ≡ count
   pub answered : AllZip (λ child item. IsPollOf child item.event) polled items
+  pub calls : MakesCalls (length items) old.host new.host
   pub adds : Adds items place.ledger [] true old.host new.host
   pub disk : new.host.faults ≡ old.host.faults
   pub stands : StandsPolling rest found new (behind moment place items)

@@ -1,10 +1,11 @@
 -- What is said of a host between two calls, and what calls add to it.
-use Rattle.std.specs.Prelude.{◌≡◌, ℕ, ◌<◌, ◌≤◌, Bool, List, ◌++◌, Option}
-use Rattle.std.specs.List.{AllByRecursion}
+use Rattle.std.specs.Prelude.{◌≡◌, ℕ, ◌+◌, ◌-◌, ◌<◌, ◌≤◌, Bool, List, ◌++◌, length, take, Option, if◌then◌else◌}
+use Rattle.std.specs.List.{AllPairs, AllByRecursion}
 use Rattle.fk_trace.specs.declared.change.Change.{Change}
 use Rattle.fk_trace.specs.Trace.{Item}
-use Rattle.fk_host.specs.Disk.{Areas, Told, Above, IfTold}
-use Rattle.fk_ledger.specs.Stretch.{Stretch}
+use Rattle.fk_host.specs.Disk.{Areas, Told, Above, IfTold, KeepsPast}
+use Rattle.fk_run.specs.Left.{IsCutAt}
+use Rattle.fk_ledger.specs.Holds.{HoldsState}
 
 -- what a host says of itself
 pub record View : Type 1 where
@@ -20,14 +21,40 @@ pub record View : Type 1 where
 abbrev pub view_of : {H : Type 0} → (H → Option Told) → (H → ℕ → Areas → Type 0) → (H → ℕ) → (H → Above) → H → View
 view_of told images faults above host = record { told = told host; images = images host; faults = faults host; above = above host }
 
--- the items are the new end of the trace, and each of them stands at a new moment
+-- so many calls of the host were made
+abbrev pub MakesCalls : ℕ → View → View → Type 0
+MakesCalls count old new = IfTold old.told new.told (λ before later. later.moments ≡ before.moments + count)
+
+-- The items are the new end of the trace, and each of them stands at a new moment, later than those before it. So the items up to
+-- a moment are the first ones.
 pub record AddsItems (items : List Item) (before later : Told) : Type 0 where
   pub trace : later.trace ≡ before.trace ++ items
   pub placed : AllByRecursion (λ item. (before.moments < item.moments) × (item.moments ≤ later.moments)) items
+  pub rising : AllPairs (λ a b. a.moments < b.moments) items
 
--- Calls were made that added these items to the trace, each with the disk's count of faults from before them, and that are one
--- stretch over the ledger with these changes: whole, unless one of the calls failed.
+-- An image that a crash at the moment leaves of calls in one turn with these items and changes: it holds the State of the ledger
+-- with a front of the changes, as long as the items allow, and no shorter than `least`.
+pub record HoldsFront (items : List Item) (ledger changes : List Change) (least moment : ℕ) (image : Areas) : Type 0 where
+  pub count : ℕ
+  pub enough : least ≤ count
+  pub cut : IsCutAt moment items changes count
+  pub holds : HoldsState (ledger ++ take count changes) image
+
+-- The moments of some calls. What a crash at an earlier moment may leave is as before; what is left is said of each image of a new
+-- moment, and of each image of the last one that it has no less than `least`.
+pub record Moments (Leaves : ℕ → ℕ → Areas → Type 0) (least : ℕ) (old new : ℕ → Areas → Type 0) (start finish : Told) : Type 0 where
+  pub later : start.moments ≤ finish.moments
+  pub past : KeepsPast start.moments old new
+  pub each : (moment : ℕ) (image : Areas) → start.moments < moment → moment ≤ finish.moments → new moment image → Leaves 0 moment image
+  pub last : (image : Areas) → new finish.moments image → Leaves least finish.moments image
+
+-- how many of the changes were made: where a call of the disk failed, all but the last, whose call it was
+abbrev pub made_of : Bool → List Change → ℕ
+made_of whole changes = if whole then length changes else length changes - 1
+
+-- Calls were made in one turn that added these items to the trace, each with the disk's count of faults from before them, and these
+-- changes to the ledger: all of them, unless one of the calls failed, which is then that of the last change.
 pub record Adds (items : List Item) (ledger changes : List Change) (whole : Bool) (old new : View) : Type 0 where
   pub trace : IfTold old.told new.told (AddsItems items)
-  pub stretch : IfTold old.told new.told (Stretch ledger changes whole old.images new.images)
+  pub moments : IfTold old.told new.told (Moments (HoldsFront items ledger changes) (made_of whole changes) old.images new.images)
   pub faults : AllByRecursion (λ item. item.faults ≡ old.faults) items

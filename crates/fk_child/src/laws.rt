@@ -3,6 +3,7 @@ ghost use Rattle.std.specs.Prelude.{◌≡◌, ℕ, Bool, true, List, [], ◌++�
 ghost use Rattle.fk_trace.specs.declared.change.Change.{Change};
 ghost use Rattle.fk_trace.specs.Trace.{Item};
 ghost use Rattle.fk_trace.specs.Ledger.{after, IsLedger};
+ghost use Rattle.fk_run.specs.Left.{MayStandBefore};
 ghost use Rattle.fk_run.specs.Place.{Place};
 ghost use Rattle.fk_run.specs.Turn.{AttemptsEachDue};
 ghost use Rattle.fk_ledger.specs.Holds.{KeepsLedger};
@@ -17,12 +18,13 @@ pub fn no_calls_add_nothing<H: Host>(host: &H)
         → KeepsLedger ledger (H.told host.now) (H.may_leave host.now) → Adds [] ledger [] true (view host.now) (view host.now) }
 {}
 
-/// Calls that adjoin add up, where the first were whole and left the disk's count of faults.
+/// Calls of one turn that adjoin add up, where the first were whole and left the disk's count of faults, and each change of both
+/// stands between the items that attempt nothing and the attempts.
 pub fn adjoining_calls_add_up<H: Host>(first: &H, second: &H, third: &H)
     ensures { let view = view_of H.told H.may_leave H.faults H.above in (earlier later : List Item) (ledger a b : List Change) (whole : Bool)
-        → Adds earlier ledger a true (view first.now) (view second.now) → H.faults second.now ≡ H.faults first.now
-        → Adds later (after ledger a) b whole (view second.now) (view third.now)
-        → Adds (earlier ++ later) ledger (after a b) whole (view first.now) (view third.now) }
+        → MayStandBefore earlier a later b → H.faults second.now ≡ H.faults first.now
+        → Adds earlier ledger a true (view first.now) (view second.now) → Adds later (after ledger a) b whole (view second.now) (view third.now)
+        → Adds (earlier ++ later) ledger (a ++ b) whole (view first.now) (view third.now) }
 {}
 
 /// The closes that are due next, attempted one after another until none is, are those of the idle records that are due: each is

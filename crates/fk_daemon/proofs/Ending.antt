@@ -18,8 +18,8 @@ use Rattle.fk_log.specs.Shown.{shown_text}
 use Rattle.fk_log.specs.Writing.{Output, Writes, Logs, output}
 use Rattle.fk_log.proofs.Logged.{Logs-append}
 use Rattle.fk_ledger.specs.Holds.{HoldsLedger}
-use Rattle.fk_ledger.specs.Stretch.{Stretch, IsLedgerOpening}
-use Rattle.fk_child.specs.View.{View, AddsItems}
+use Rattle.fk_ledger.specs.Stretch.{IsLedgerOpening}
+use Rattle.fk_child.specs.View.{View, AddsItems, Moments}
 use Rattle.fk_turn.specs.Daemon.{DaemonState}
 use Rattle.fk_daemon.specs.declared.task.Task.{Task}
 use Rattle.fk_daemon.specs.declared.session.Session.{Session}
@@ -30,8 +30,9 @@ use Rattle.fk_daemon.specs.Outside.{Outside}
 use Rattle.fk_daemon.specs.Account.{tried_changes, is_whole}
 use Rattle.fk_daemon.specs.Moments.{RunMoments}
 use Rattle.fk_daemon.specs.Serving.{HasStatus, HasCauses, ServesRun, OpensInVain, OpensNoLedger, SaysWhyUnopened}
-use Rattle.fk_daemon.specs.Sessions.{Standing, Begins, OpensDaemon, HasOpeningCause, SaysFault, Finishes, SaysEnd, MaySumUp, new_log, ending_of, summary_by, output_of}
-use Rattle.fk_daemon.proofs.Telling.{told-join, told-both, items-behind, opened-then, moments-join}
+use Rattle.fk_daemon.specs.Sessions.{HoldsCrash, Standing, Begins, OpensDaemon, HasOpeningCause, SaysFault, Finishes, SaysEnd, MaySumUp, new_log, ending_of, summary_by, output_of}
+use Rattle.fk_daemon.proofs.Telling.{told-join, told-both, items-behind, opened-then}
+use Rattle.fk_daemon.proofs.Crashing.{SettlesCleanly, AttemptsOnce, moments-join}
 
 abbrev pub sink_of : Output → SinkView
 sink_of out = record { written = out.written; faults = out.faults }
@@ -66,7 +67,7 @@ first_standing task daemon old host = record { session = first_session task daem
 module _ (task : Task) (old : Outside) (host : View) (daemon : DaemonState) (how : Stop) (session : Session) (late : Outside) (sink : SinkView) (answer : Status)
     (opens : OpensDaemon task.policy.conf.now old.host host daemon)
     (run_is : Finishes task daemon.book.changes how (first_standing task daemon old host) (record { session = session; outside = late }))
-    (says : SaysEnd how session late.sink sink answer) where
+    (says : SaysEnd how session late.sink sink answer) (settles : SettlesCleanly) (once : AttemptsOnce) where
   abbrev run : Run
   run = run_is.account.run
 
@@ -93,12 +94,16 @@ module _ (task : Task) (old : Outside) (host : View) (daemon : DaemonState) (how
   trace-kept = told-both old.host.told host.told (λ x y. y.trace ≡ x.trace) (IsLedgerOpening daemon.book.changes true old.host.images host.images)
       (λ x y. (y.trace ≡ x.trace) × (x.moments ≤ y.moments)) (opened-then daemon.book.changes old.host.images host.images) opens.trace opens.moments
 
-  all-moments : IfTold old.host.told late.host.told
-      (RunMoments daemon.book.changes (tried_changes run_is.account) (is_whole (ending_of how)) old.host.images late.host.images)
-  all-moments = told-join old.host.told host.told late.host.told (IsLedgerOpening daemon.book.changes true old.host.images host.images)
-      (Stretch daemon.book.changes (tried_changes run_is.account) (is_whole (ending_of how)) host.images late.host.images)
-      (RunMoments daemon.book.changes (tried_changes run_is.account) (is_whole (ending_of how)) old.host.images late.host.images)
-      (moments-join daemon.book.changes (tried_changes run_is.account) (is_whole (ending_of how)) old.host.images host.images late.host.images) opens.moments run_is.adds.stretch
+  run-moments : IfTold host.told late.host.told (λ x y. AddsItems (trace_of run) x y × Moments (HoldsCrash run (tried_changes run_is.account)) (length (changes_of run)) host.images late.host.images x y)
+  run-moments = told-both host.told late.host.told (AddsItems (trace_of run)) (Moments (HoldsCrash run (tried_changes run_is.account)) (length (changes_of run)) host.images late.host.images)
+      (λ x y. AddsItems (trace_of run) x y × Moments (HoldsCrash run (tried_changes run_is.account)) (length (changes_of run)) host.images late.host.images x y) (λ x y a b. (a, b)) run_is.adds.trace run_is.adds.moments
+
+  all-moments : IfTold old.host.told late.host.told (RunMoments run (tried_changes run_is.account) old.host.images late.host.images)
+  all-moments = told-join old.host.told host.told late.host.told (IsLedgerOpening run.ledger true old.host.images host.images)
+      (λ x y. AddsItems (trace_of run) x y × Moments (HoldsCrash run (tried_changes run_is.account)) (length (changes_of run)) host.images late.host.images x y)
+      (RunMoments run (tried_changes run_is.account) old.host.images late.host.images)
+      (moments-join settles once run (tried_changes run_is.account) old.host.images host.images late.host.images)
+      (subst (λ (ledger : List Change). IfTold old.host.told host.told (IsLedgerOpening ledger true old.host.images host.images)) (sym ledger_is) opens.moments) run-moments
 
   causes : HasCauses (ending_of how) old (record { feed = late.feed; host = late.host; sink = sink })
   causes = record {
@@ -111,15 +116,16 @@ module _ (task : Task) (old : Outside) (host : View) (daemon : DaemonState) (how
   serves_run = record {
     account = run_is.account;
     serving = run_is.serving;
-    found = subst (λ (ledger : List Change). IfTold old.host.told late.host.told (λ x y. HoldsLedger x.areas ledger)) (sym ledger_is)
-        (told-join old.host.told host.told late.host.told (λ x y. HoldsLedger x.areas daemon.book.changes) (AddsItems (trace_of run)) (λ x y. HoldsLedger x.areas daemon.book.changes)
-        (λ x y z f g. f) opens.found run_is.adds.trace);
-    faults = ap (λ (r : Run). r.faults) run_is.is ∙ opens.disk;
     turns = run_is.given;
-    trace = told-join old.host.told host.told late.host.told (λ x y. (y.trace ≡ x.trace) × (x.moments ≤ y.moments)) (AddsItems (trace_of run)) (AddsItems (trace_of run))
-        (items-behind (trace_of run)) trace-kept run_is.adds.trace;
-    moments = subst (λ (ending : Ending). IfTold old.host.told late.host.told (RunMoments run.ledger (tried_changes run_is.account) (is_whole ending) old.host.images late.host.images)) (sym ending_is)
-        (subst (λ (ledger : List Change). IfTold old.host.told late.host.told (RunMoments ledger (tried_changes run_is.account) (is_whole (ending_of how)) old.host.images late.host.images)) (sym ledger_is) all-moments);
+    host = record {
+      found = subst (λ (ledger : List Change). IfTold old.host.told late.host.told (λ x y. HoldsLedger x.areas ledger)) (sym ledger_is)
+          (told-join old.host.told host.told late.host.told (λ x y. HoldsLedger x.areas daemon.book.changes) (AddsItems (trace_of run)) (λ x y. HoldsLedger x.areas daemon.book.changes)
+          (λ x y z f g. f) opens.found run_is.adds.trace);
+      faults = ap (λ (r : Run). r.faults) run_is.is ∙ opens.disk;
+      trace = told-join old.host.told host.told late.host.told (λ x y. (y.trace ≡ x.trace) × (x.moments ≤ y.moments)) (AddsItems (trace_of run)) (AddsItems (trace_of run))
+          (items-behind (trace_of run)) trace-kept run_is.adds.trace;
+      moments = all-moments;
+    };
     is_broken = says.0.is_broken;
     printed = prints says.0.is_broken (shown_text task.verbosity (before ++ last run.ending)) (output (new_log task.verbosity) old.sink.written old.sink.faults)
         (output says.0 sink.written sink.faults) whole-log.written;
@@ -141,10 +147,10 @@ begun task old host daemon first opens is =
 pub serves_begun : (task : Task) (old : Outside) (host : View) (daemon : DaemonState) (how : Stop) (first session : Session) (late : Outside) (sink : SinkView) (answer : Status)
     → OpensDaemon task.policy.conf.now old.host host daemon → first ≡ first_session task daemon
     → Finishes task daemon.book.changes how (standing_with first old host) (record { session = session; outside = late })
-    → SaysEnd how session late.sink sink answer → ServesRun task old (record { feed = late.feed; host = late.host; sink = sink }) answer
-serves_begun task old host daemon how first session late sink answer opens is finishes says =
+    → SaysEnd how session late.sink sink answer → SettlesCleanly → AttemptsOnce → ServesRun task old (record { feed = late.feed; host = late.host; sink = sink }) answer
+serves_begun task old host daemon how first session late sink answer opens is finishes says settles once =
     serves_run task old host daemon how session late sink answer opens
-    (subst (λ (s : Session). Finishes task daemon.book.changes how (standing_with s old host) (record { session = session; outside = late })) is finishes) says
+    (subst (λ (s : Session). Finishes task daemon.book.changes how (standing_with s old host) (record { session = session; outside = late })) is finishes) says settles once
 
 -- no ledger was opened
 pub unopened : (verbosity : Verbosity) (old : Outside) (host : View) (fault : JournalErr) (sink : SinkView) (answer : Status) → OpensInVain old.host host

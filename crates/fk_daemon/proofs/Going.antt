@@ -1,16 +1,21 @@
 -- A run between two turns: what the turns so far have been.
 use Rattle.std.proofs.Common.{◌≡◌, ℕ, ◌+◌, ◌≤◌, ◌||◌, nat_le, Bool, true, false, cond, List, [], ◌∷◌, ◌++◌, length, map, Option, Some, None, IsSomeAnd, refl, sym, ap, ◌∙◌, subst, ◌⊎◌, inl, inr, append_assoc, append-nil, length-append, arith}
 use Rattle.std.specs.Option.{option_map_or}
+use Rattle.std.specs.List.{AllByRecursion}
 use Rattle.std.proofs.lemmas.Bool.Decides.{nat_tests}
 use Rattle.std.proofs.lemmas.List.{map-append}
 use Rattle.fk_trace.specs.declared.change.Change.{Change}
-use Rattle.fk_trace.specs.Trace.{Item}
-use Rattle.fk_trace.specs.Ledger.{after, live}
+use Rattle.fk_trace.specs.Trace.{Item, past_after}
+use Rattle.fk_trace.specs.Ledger.{after, live, IsLedger}
+use Rattle.fk_trace.proofs.Settled.{past_after-append}
 use Rattle.fk_trace.specs.Decision.{FeedTurn}
 use Rattle.fk_run.specs.declared.limits.Limits.{Limits}
 use Rattle.fk_run.specs.Place.{Place, entry}
-use Rattle.fk_run.specs.Turn.{TakenTurn, after_turns}
+use Rattle.fk_run.specs.Turn.{TakenTurn, CutTurn, after_turns}
+use Rattle.fk_run.specs.Run.{Ending}
 use Rattle.fk_run.specs.Run.Ending.{AtLimit}
+use Rattle.fk_run.proofs.Cutting.{recursion-joined, whole-cut}
+use Rattle.fk_run.proofs.Fronts.{past-after_turns}
 use Rattle.fk_run.specs.Legal.{LegalTurns}
 use Rattle.fk_run.specs.Ending.{packets_in, is_datagram, turn_limit, ReachesLimit}
 use Rattle.fk_host.specs.Feed.{Given, OpensAt}
@@ -23,16 +28,17 @@ use Rattle.fk_log.specs.Writing.{LogState, Output, Logs, output}
 use Rattle.fk_log.proofs.Logged.{Logs-append}
 use Rattle.fk_log.proofs.Turns.{lines_of_turns-append}
 use Rattle.fk_conf.specs.declared.conf.Conf.{Conf}
-use Rattle.fk_child.specs.View.{Adds}
-use Rattle.fk_child.proofs.Images.{adds-none, adds-append}
+use Rattle.fk_child.specs.View.{Adds, made_of}
+use Rattle.fk_child.proofs.Pieces.{recursion-weaker}
 use Rattle.fk_turn.specs.Daemon.{Scene, AtRest}
 use Rattle.fk_turn.specs.Rules.{rules_by}
 use Rattle.fk_daemon.specs.declared.task.Task.{Task}
 use Rattle.fk_daemon.specs.declared.session.Session.{Session}
 use Rattle.fk_log.specs.Printing.{SinkView}
 use Rattle.fk_daemon.specs.Outside.{FeedView, Feeds}
-use Rattle.fk_daemon.specs.Sessions.{Standing, Begins, Takes, TakesNone, ServesNext, is_over, output_of, scene_of}
+use Rattle.fk_daemon.specs.Sessions.{AddsTurns, Standing, Begins, Takes, TakesNone, ServesNext, is_over, output_of, scene_of}
 use Rattle.fk_daemon.proofs.Behind.{items_in, changes_in, items-push, changes-push, place-push, ledger-behind, packets-push, legal-push, feeds-then, cases-push}
+use Rattle.fk_daemon.proofs.Crashing.{AreNumbered, run_at, adds-left, adds-no_turn, adds-turn}
 
 -- the lines of the turns so far, the first line of the run among them
 abbrev pub lines_so_far : Task → List Change → List TakenTurn → List Line
@@ -41,7 +47,9 @@ lines_so_far task ledger turns = opening_lines Opened ledger ++ lines_of_turns (
 -- These turns were served, whole and one after another, since the feed was opened.
 pub record Going (task : Task) (ledger : List Change) (turns : List TakenTurn) (old now : Standing) : Type 0 where
   pub whole : LegalTurns (rules_by task.policy) (entry ledger) AtLimit turns
-  pub adds : Adds (items_in turns) ledger (changes_in turns) true old.outside.host now.outside.host
+  pub is_ledger : IsLedger ledger
+  pub adds : AddsTurns (run_at (rules_by task.policy) ledger old.outside.host.faults AtLimit turns) (changes_in turns) old.outside.host now.outside.host
+  pub unfailed : AllByRecursion (λ item. item.faults ≡ old.outside.host.faults) (items_in turns)
   pub disk : now.outside.host.faults ≡ old.outside.host.faults
   pub given : Feeds Opened task.policy.conf.now.port (map (λ taken. taken.turn) turns) old.outside.feed.given now.outside.feed.given
   pub logs : Logs (lines_so_far task ledger turns) (output_of old) (output_of now)
@@ -85,7 +93,9 @@ going-first task ledger old log feed sink live_count begins opens counts logs =
     let same : live_count ≡ length (live ledger) = counts ∙ ap (λ (changes : List Change). length (live changes)) begins.rests.stands.changes in
     record {
       whole = tt;
-      adds = adds-none ledger old.outside.host begins.rests.stands.stands.keeps;
+      is_ledger = begins.rests.stands.stands.keeps.follow;
+      adds = adds-no_turn (rules_by task.policy) ledger old.outside.host.faults AtLimit old.outside.host begins.rests.stands.stands.keeps;
+      unfailed = tt;
       disk = refl;
       given = feeds-first task.policy.conf.now.port old.outside.feed.given feed.given opens;
       logs = subst (λ (n : ℕ). Logs (ReadyLine n ∷ []) (output_of old) (output_of (ready old log feed sink))) same logs;
@@ -95,14 +105,35 @@ going-first task ledger old log feed sink live_count begins opens counts logs =
       before = λ front taken later e reached. absurd (no_turn_before front taken later e);
     }
 
--- behind turns that were served more is added
-pub adds-behind : (task : Task) (ledger : List Change) (turns : List TakenTurn) (old mid new : Standing) → Going task ledger turns old mid
-    → (items : List Item) (changes : List Change) (whole : Bool) → Adds items (after_turns (entry ledger) turns).ledger changes whole mid.outside.host new.outside.host
-    → Adds (items_in turns ++ items) ledger (changes_in turns ++ changes) whole old.outside.host new.outside.host
-adds-behind task ledger turns old mid new going items changes whole adds =
-    let here : Adds items (after ledger (changes_in turns)) changes whole mid.outside.host new.outside.host =
-    subst (λ (held : List Change). Adds items held changes whole mid.outside.host new.outside.host) (ledger-behind (entry ledger) turns) adds in
-    adds-append (items_in turns) items ledger (changes_in turns) changes whole old.outside.host mid.outside.host new.outside.host going.adds going.disk here
+-- behind turns that were served the items of a last one carry the same count of faults, and no two children have one number
+pub unfailed-behind : (task : Task) (ledger : List Change) (turns : List TakenTurn) (old mid new : Standing) (taken : TakenTurn) (tried : List Change) (whole : Bool) → Going task ledger turns old mid
+    → Adds taken.items (after_turns (entry ledger) turns).ledger tried whole mid.outside.host new.outside.host
+    → AllByRecursion (λ item. item.faults ≡ old.outside.host.faults) (items_in (turns ++ taken ∷ []))
+unfailed-behind task ledger turns old mid new taken tried whole going adds =
+    subst (AllByRecursion (λ (item : Item). item.faults ≡ old.outside.host.faults)) (sym (items-push turns taken))
+    (recursion-joined (λ (item : Item). item.faults ≡ old.outside.host.faults) (items_in turns) taken.items going.unfailed
+    (recursion-weaker (λ (item : Item). item.faults ≡ mid.outside.host.faults) (λ item. item.faults ≡ old.outside.host.faults) (λ item e. e ∙ going.disk) taken.items adds.faults))
+
+pub numbered-cut : (ledger : List Change) (turns : List TakenTurn) (taken : TakenTurn)
+    → AreNumbered (past_after (after_turns (entry ledger) turns).past taken.items) → AreNumbered (past_after [] (items_in (turns ++ taken ∷ [])))
+numbered-cut ledger turns taken numbered =
+    subst AreNumbered
+    (ap (λ (past : List Item). past_after past taken.items) (past-after_turns (entry ledger) turns)
+    ∙ sym (past_after-append [] (items_in turns) taken.items) ∙ ap (λ (items : List Item). past_after [] items) (sym (items-push turns taken)))
+    numbered
+
+-- behind turns that were served one more is added, whole or cut
+pub adds-behind : (task : Task) (ledger : List Change) (ending : Ending) (turns : List TakenTurn) (old mid new : Standing) (taken : TakenTurn) (tried : List Change) (whole : Bool) → Going task ledger turns old mid
+    → CutTurn (rules_by task.policy) (after_turns (entry ledger) turns) (record taken { changes = tried })
+    → AreNumbered (past_after (after_turns (entry ledger) turns).past taken.items)
+    → Adds taken.items (after_turns (entry ledger) turns).ledger tried whole mid.outside.host new.outside.host → length taken.changes ≤ made_of whole tried
+    → AddsTurns (run_at (rules_by task.policy) ledger old.outside.host.faults ending (turns ++ taken ∷ [])) (changes_in turns ++ tried) old.outside.host new.outside.host
+adds-behind task ledger ending turns old mid new taken tried whole going cut numbered adds least =
+    let here : Adds taken.items (after ledger (changes_in turns)) tried whole mid.outside.host new.outside.host =
+    subst (λ (held : List Change). Adds taken.items held tried whole mid.outside.host new.outside.host) (ledger-behind (entry ledger) turns) adds in
+    adds-turn (rules_by task.policy) ledger old.outside.host.faults ending turns taken tried whole going.whole cut (numbered-cut ledger turns taken numbered)
+    (unfailed-behind task ledger turns old mid new taken tried whole going adds) old.outside.host mid.outside.host new.outside.host going.adds here
+    (let both = ap length (changes-push turns taken) in let sum = length-append (changes_in turns) taken.changes in omega (arith, both, sum, least))
 
 -- behind turns that were served a last one is logged
 pub logs-behind : (task : Task) (ledger : List Change) (turns : List TakenTurn) (old mid : Standing) (out : Output) → Going task ledger turns old mid
@@ -117,17 +148,16 @@ logs-behind task ledger turns old mid out going lines logs =
 pub going-none : (task : Task) (ledger : List Change) (turns : List TakenTurn) (old mid new : Standing) → Going task ledger turns old mid
     → TakesNone task.policy.conf.now (after_turns (entry ledger) turns) mid new → Going task ledger turns old new
 going-none task ledger turns old mid new going none =
-    let more = adds-behind task ledger turns old mid new going [] [] true none.adds in
-    let items : Adds (items_in turns) ledger (changes_in turns ++ []) true old.outside.host new.outside.host =
-    subst (λ (all : List Item). Adds all ledger (changes_in turns ++ []) true old.outside.host new.outside.host) (append-nil (items_in turns)) more in
     let quiet : output_of mid ≡ output_of new =
     sym (ap (λ (session : Session). output session.log new.outside.sink.written new.outside.sink.faults) none.session
     ∙ ap (λ (sink : SinkView). output mid.session.log sink.written sink.faults) none.sink) in
     let feed = feeds-then task.policy.conf.now.port (map (λ (taken : TakenTurn). taken.turn) turns) [] old.outside.feed.given mid.outside.feed.given new.outside.feed.given going.given none.given in
     record {
       whole = going.whole;
-      adds = subst (λ (all : List Change). Adds (items_in turns) ledger all true old.outside.host new.outside.host) (append-nil (changes_in turns)) items;
-      disk = none.disk ∙ going.disk;
+      is_ledger = going.is_ledger;
+      adds = adds-left (run_at (rules_by task.policy) ledger old.outside.host.faults AtLimit turns) (changes_in turns) old.outside.host mid.outside.host new.outside.host going.adds none.host;
+      unfailed = going.unfailed;
+      disk = none.host.faults ∙ going.disk;
       given = subst (λ (all : List FeedTurn). Feeds Opened task.policy.conf.now.port all old.outside.feed.given new.outside.feed.given) (append-nil (map (λ (taken : TakenTurn). taken.turn) turns)) feed;
       logs = subst (λ (out : Output). Logs (lines_so_far task ledger turns) (output_of old) out) quiet going.logs;
       rests = none.rests;
@@ -145,16 +175,17 @@ module _ (task : Task) (ledger : List Change) (turns : List TakenTurn) (old mid 
       → (next : ServesNext task turn here mid new) → Going task ledger (turns ++ next.serves.taken ∷ []) old new
   going-push going under takes next =
       let taken : TakenTurn = next.serves.taken in
-      let more = adds-behind task ledger turns old mid new going taken.items taken.changes true next.serves.adds in
-      let items : Adds (items_in (turns ++ taken ∷ [])) ledger (changes_in turns ++ taken.changes) true old.outside.host new.outside.host =
-      subst (λ (all : List Item). Adds all ledger (changes_in turns ++ taken.changes) true old.outside.host new.outside.host) (sym (items-push turns taken)) more in
+      let more = adds-behind task ledger AtLimit turns old mid new taken taken.changes true going (whole-cut (rules_by task.policy) here taken next.serves.whole)
+      next.serves.rests.stands.stands.tied.stands.orderly.numbered next.serves.adds (omega arith) in
       let feed = feeds-then task.policy.conf.now.port (map (λ (t : TakenTurn). t.turn) turns) (turn ∷ []) old.outside.feed.given mid.outside.feed.given new.outside.feed.given going.given takes.given in
       let fed : map (λ (t : TakenTurn). t.turn) turns ++ turn ∷ [] ≡ map (λ (t : TakenTurn). t.turn) (turns ++ taken ∷ []) =
       ap (λ (t : FeedTurn). map (λ (t : TakenTurn). t.turn) turns ++ t ∷ []) (sym next.serves.of_turn) ∙ sym (map-append (λ (t : TakenTurn). t.turn) turns (taken ∷ [])) in
       let lines = logs-behind task ledger turns old mid (output_of new) going (turn_lines (rules_by task.policy) here Told taken) next.serves.logs in
       record {
         whole = legal-push (rules_by task.policy) (entry ledger) turns taken going.whole next.serves.whole;
-        adds = subst (λ (all : List Change). Adds (items_in (turns ++ taken ∷ [])) ledger all true old.outside.host new.outside.host) (sym (changes-push turns taken)) items;
+        is_ledger = going.is_ledger;
+        adds = subst (λ (tried : List Change). AddsTurns (run_at (rules_by task.policy) ledger old.outside.host.faults AtLimit (turns ++ taken ∷ [])) tried old.outside.host new.outside.host) (sym (changes-push turns taken)) more;
+        unfailed = unfailed-behind task ledger turns old mid new taken taken.changes true going next.serves.adds;
         disk = next.serves.disk ∙ going.disk;
         given = subst (λ (all : List FeedTurn). Feeds Opened task.policy.conf.now.port all old.outside.feed.given new.outside.feed.given) fed feed;
         logs = subst (λ (all : List Line). Logs (opening_lines Opened ledger ++ all) (output_of old) (output_of new)) (sym (lines_of_turns-append (rules_by task.policy) (entry ledger) Told turns taken)) lines;

@@ -1,6 +1,7 @@
 pub mod Behind
 pub mod Telling
 pub mod Resuming
+pub mod Crashing
 pub mod Going
 pub mod Stopping
 pub mod Looping

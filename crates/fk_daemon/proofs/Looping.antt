@@ -13,8 +13,9 @@ use Rattle.fk_host.specs.Count.{counted}
 use Rattle.fk_log.specs.Log.Opening.{Unopened}
 use Rattle.fk_log.specs.Log.RefusalLine.{Told}
 use Rattle.fk_log.specs.Writing.{Logs}
-use Rattle.fk_child.proofs.Images.{adds-none}
+use Rattle.fk_daemon.proofs.Crashing.{adds-no_turn}
 use Rattle.fk_ledger.specs.Book.{live_ids}
+use Rattle.fk_turn.specs.Rules.{rules_by}
 use Rattle.fk_daemon.specs.declared.task.Task.{Task}
 use Rattle.fk_daemon.specs.declared.session.Stop.{Stop}
 use Rattle.fk_daemon.specs.declared.session.Stop.TheVariants as stop
@@ -90,16 +91,18 @@ finish-unopened task ledger old feed limits begins given fails logs = record {
   is = refl;
   serving = record {
     rules = refl;
+    ledger = begins.rests.stands.stands.keeps.follow;
     legal = record { turns = tt; no_fault_before = tt; numbered = begins.rests.stands.stands.tied.stands.orderly.numbered };
     limits = record { fits = none_reached task.limits limits; before = λ front taken later e reached. no_turn_before front taken later e };
     memory = λ wants front last placed. absurd cc;
+    settled = λ wants front last placed. absurd cc;
     wants = λ wants none. cc;
     opens = (refl, refl);
     tells = refl;
     fails = refl;
   };
   given = given;
-  adds = adds-none ledger old.outside.host begins.rests.stands.stands.keeps;
+  adds = adds-no_turn (rules_by task.policy) ledger old.outside.host.faults AtFeedFault old.outside.host begins.rests.stands.stands.keeps;
   caused = record { feed = fails; disk = refl; end = tt };
   logs = logs;
   parks = begins.rests.stands.stands.tied.owes ∙ ap live_ids (sym begins.rests.stands.changes);

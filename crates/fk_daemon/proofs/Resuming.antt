@@ -4,6 +4,7 @@ use Rattle.fk_trace.specs.declared.change.Change.{Change}
 use Rattle.fk_run.specs.Place.{entry}
 use Rattle.fk_host.specs.Disk.{Above, IfTold}
 use Rattle.fk_conf.specs.declared.conf.Conf.{Conf}
+use Rattle.fk_journal.specs.Keeps.{IsOpening, LeavesOthers}
 use Rattle.fk_ledger.specs.Book.{Book}
 use Rattle.fk_ledger.specs.Holds.{HoldsLedger, KeepsLedger}
 use Rattle.fk_ledger.specs.Stretch.{IsLedgerOpening}
@@ -21,6 +22,8 @@ pub record Opened (conf : Conf) (ledger : Book) (old new : View) : Type 0 where
   pub keeps : KeepsLedger ledger.changes new.told new.images
   pub moments : (held : List Change) → IfTold old.told new.told (λ before later. HoldsLedger before.areas held → IsLedgerOpening held true old.images new.images before later)
   pub trace : IfTold old.told new.told (λ before later. later.trace ≡ before.trace)
+  pub entries : IfTold old.told new.told (IsOpening old.images new.images)
+  pub others : IfTold old.told new.told (LeavesOthers old.images new.images)
   pub disk : new.faults ≡ old.faults
 
 pub resumed : (conf : Conf) (ledger : Book) (daemon : DaemonState) (old new : View) → Opened conf ledger old new
@@ -59,4 +62,6 @@ opened_in_vain conf ledger old new opened = record {
   moments = λ held. told-weaker old.told new.told (λ before later. HoldsLedger before.areas held → IsLedgerOpening held true old.images new.images before later)
       (λ before later. HoldsLedger before.areas held → IsLedgerOpening held false old.images new.images before later)
       (λ x y h g. opening-weaker held old.images new.images x y (h g)) (opened.moments held);
+  entries = opened.entries;
+  others = opened.others;
 }

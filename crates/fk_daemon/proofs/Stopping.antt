@@ -1,13 +1,13 @@
 -- A run from its beginning to its stop.
-use Rattle.std.proofs.Common.{◌≡◌, ℕ, ◌<◌, Bool, true, false, IsTrue, List, [], ◌∷◌, ◌++◌, length, map, refl, sym, ap, ◌∙◌, subst, ◌⊎◌, inl, inr, append_assoc, append-nil}
-use Rattle.std.specs.List.{AllPairs}
+use Rattle.std.proofs.Common.{◌≡◌, ℕ, Bool, true, false, IsTrue, List, [], ◌∷◌, ◌++◌, length, map, refl, sym, ap, ◌∙◌, subst, ◌⊎◌, inl, inr, append_assoc, append-nil, length-append, arith, ◌≤◌}
 use Rattle.std.proofs.lemmas.List.{map-append}
 use Rattle.fk_trace.specs.declared.change.Change.{Change}
-use Rattle.fk_trace.specs.Trace.{Item, Child, children, past_after}
-use Rattle.fk_trace.specs.Ledger.{live}
+use Rattle.fk_trace.specs.Trace.{Item, past_after}
+use Rattle.fk_trace.specs.declared.change.Change.TheVariants.{Done}
+use Rattle.fk_trace.specs.Ledger.{live, dones}
+use Rattle.fk_trace.specs.Settled.{settlements}
 use Rattle.fk_trace.specs.Decision.{FeedTurn, Rules}
 use Rattle.fk_trace.proofs.Splits.{none_before}
-use Rattle.fk_trace.proofs.Settled.{past_after-append}
 use Rattle.fk_run.specs.Place.{Place, entry}
 use Rattle.fk_run.specs.Turn.{TakenTurn, CutTurn, after_turns}
 use Rattle.fk_run.specs.Run.{Run, Ending, cuts_turn}
@@ -23,7 +23,7 @@ use Rattle.fk_log.specs.Log.Opening.{Opened}
 use Rattle.fk_log.specs.Log.RefusalLine.{Told, Untold}
 use Rattle.fk_log.specs.Writing.{Logs}
 use Rattle.fk_log.proofs.Turns.{lines_of_turns-append}
-use Rattle.fk_child.specs.View.{Adds}
+use Rattle.fk_child.specs.View.{Adds, made_of}
 use Rattle.fk_turn.specs.Rules.{rules_by}
 use Rattle.fk_turn.specs.Serving.{FailsAtDisk, WantsMemory, OwesItsLive}
 use Rattle.fk_daemon.specs.declared.task.Task.{Task}
@@ -31,28 +31,18 @@ use Rattle.fk_daemon.specs.declared.session.Session.{Session}
 use Rattle.fk_daemon.specs.declared.session.Stop.{Stop}
 use Rattle.fk_daemon.specs.declared.session.Stop.TheVariants as stop
 use Rattle.fk_daemon.specs.Outside.{Feeds}
-use Rattle.fk_daemon.specs.Account.{Account, FailsNext, IsServing, is_whole}
+use Rattle.fk_daemon.specs.Account.{Account, FailsNext, IsServing}
 use Rattle.fk_daemon.specs.Serving.{HasCauses}
-use Rattle.fk_daemon.specs.Sessions.{Standing, Takes, TakesNone, SumsUp, MaySumUp, Finishes, ending_of, run_of, output_of, scene_of}
-use Rattle.fk_daemon.proofs.Behind.{items_in, changes_in, items-push, changes-push, ledger-behind, last-push, legal-whole, legal-cut, planned-push, feeds-then, cases-push, last-one}
-use Rattle.fk_daemon.proofs.Going.{Going, adds-behind, logs-behind, going-none}
+use Rattle.fk_daemon.specs.Sessions.{AddsTurns, Standing, Takes, TakesNone, SumsUp, MaySumUp, Finishes, ending_of, run_of, output_of, scene_of}
+use Rattle.fk_daemon.proofs.Behind.{items_in, changes_in, changes-push, ledger-behind, last-push, legal-whole, legal-cut, planned-push, feeds-then, cases-push, last-one}
+use Rattle.fk_daemon.proofs.Crashing.{AreNumbered, adds-ending}
+use Rattle.fk_daemon.proofs.Going.{Going, numbered-cut, unfailed-behind, adds-behind, logs-behind, going-none}
 
--- no two children of these items have one number, and later ones have greater ones
-abbrev pub AreNumbered : List Item → Type 0
-AreNumbered past = AllPairs (λ (a b : Child). a.number < b.number) (children past)
-
+-- no two children of the turns that were served have one number
 numbered-behind : (task : Task) (ledger : List Change) (turns : List TakenTurn) (old now : Standing) → Going task ledger turns old now
     → AreNumbered (past_after [] (items_in turns))
 numbered-behind task ledger turns old now going =
     subst AreNumbered (past-after_turns (entry ledger) turns) going.rests.stands.stands.tied.stands.orderly.numbered
-
-numbered-cut : (task : Task) (ledger : List Change) (turns : List TakenTurn) (taken : TakenTurn)
-    → AreNumbered (past_after (after_turns (entry ledger) turns).past taken.items) → AreNumbered (past_after [] (items_in (turns ++ taken ∷ [])))
-numbered-cut task ledger turns taken numbered =
-    subst AreNumbered
-    (ap (λ (past : List Item). past_after past taken.items) (past-after_turns (entry ledger) turns)
-    ∙ sym (past_after-append [] (items_in turns) taken.items) ∙ ap (λ (items : List Item). past_after [] items) (sym (items-push turns taken)))
-    numbered
 
 parks-behind : (task : Task) (ledger : List Change) (turns : List TakenTurn) (old now : Standing) → Going task ledger turns old now → OwesItsLive now.session.daemon
 parks-behind task ledger turns old now going =
@@ -82,13 +72,15 @@ serving-uncut : (task : Task) (ledger : List Change) (ending : Ending) (turns : 
     → IsServing task (uncut task ledger old.outside.host.faults ending turns)
 serving-uncut task ledger ending turns old now going whole fits tells fails = record {
   rules = refl;
+  ledger = going.is_ledger;
   legal = record {
     turns = legal-whole (rules_by task.policy) (entry ledger) ending turns going.whole;
-    no_fault_before = going.adds.faults;
+    no_fault_before = going.unfailed;
     numbered = numbered-behind task ledger turns old now going;
   };
   limits = record { fits = fits; before = going.before };
   memory = λ wants front last placed. absurd (let never : true ≡ false = ap cuts_turn (sym wants) ∙ whole in cc);
+  settled = λ wants front last placed. absurd (let never : true ≡ false = ap cuts_turn (sym wants) ∙ whole in cc);
   wants = λ wants none. let never : true ≡ false = ap cuts_turn (sym wants) ∙ whole in cc;
   opens = tt;
   tells = tells;
@@ -96,16 +88,16 @@ serving-uncut task ledger ending turns old now going whole fits tells fails = re
 }
 
 finish-uncut : (task : Task) (ledger : List Change) (how : Stop) (turns : List TakenTurn) (old now : Standing) → Going task ledger turns old now
-    → IsServing task (uncut task ledger old.outside.host.faults (ending_of how) turns) → is_whole (ending_of how) ≡ true
+    → IsServing task (uncut task ledger old.outside.host.faults (ending_of how) turns)
     → HasCauses (ending_of how) old.outside now.outside → Finishes task ledger how old now
-finish-uncut task ledger how turns old now going serving whole caused = record {
+finish-uncut task ledger how turns old now going serving caused = record {
   account = uncut task ledger old.outside.host.faults (ending_of how) turns;
   turns = turns;
   is = refl;
   serving = serving;
   given = going.given;
-  adds = subst (λ (w : Bool). Adds (items_in turns) ledger (changes_in turns ++ []) w old.outside.host now.outside.host) (sym whole)
-      (subst (λ (changes : List Change). Adds (items_in turns) ledger changes true old.outside.host now.outside.host) (sym (append-nil (changes_in turns))) going.adds);
+  adds = subst (λ (tried : List Change). AddsTurns (run_of task ledger old.outside.host.faults (ending_of how) turns) tried old.outside.host now.outside.host) (sym (append-nil (changes_in turns)))
+      (adds-ending (rules_by task.policy) ledger old.outside.host.faults AtLimit (ending_of how) turns (changes_in turns) old.outside.host now.outside.host going.adds);
   caused = caused;
   logs = going.logs;
   parks = parks-behind task ledger turns old now going;
@@ -116,7 +108,7 @@ finish-uncut task ledger how turns old now going serving whole caused = record {
 pub finish-limit : (task : Task) (ledger : List Change) (turns : List TakenTurn) (old now : Standing) → Going task ledger turns old now
     → now.outside.feed.faults ≡ old.outside.feed.faults → ReachesLimit task.limits turns → Finishes task ledger stop.Limit old now
 finish-limit task ledger turns old now going calm reached =
-    finish-uncut task ledger stop.Limit turns old now going (serving-uncut task ledger AtLimit turns old now going refl reached refl refl) refl
+    finish-uncut task ledger stop.Limit turns old now going (serving-uncut task ledger AtLimit turns old now going refl reached refl refl)
     (record { feed = calm; disk = going.disk; end = tt })
 
 -- the feed has ended
@@ -126,7 +118,7 @@ pub finish-end : (task : Task) (ledger : List Change) (turns : List TakenTurn) (
     → new.outside.feed.has_ended ≡ true → Finishes task ledger stop.End old new
 finish-end task ledger turns old mid new going calm under none same ended =
     let there = going-none task ledger turns old mid new going none in
-    finish-uncut task ledger stop.End turns old new there (serving-uncut task ledger AtEnd turns old new there refl under refl refl) refl
+    finish-uncut task ledger stop.End turns old new there (serving-uncut task ledger AtEnd turns old new there refl under refl refl)
     (record { feed = same ∙ calm; disk = there.disk; end = ended })
 
 -- the feed failed
@@ -136,7 +128,7 @@ pub finish-feed : (task : Task) (ledger : List Change) (turns : List TakenTurn) 
     → Finishes task ledger stop.FeedFault old new
 finish-feed task ledger turns old mid new going calm under none fails =
     let there = going-none task ledger turns old mid new going none in
-    finish-uncut task ledger stop.FeedFault turns old new there (serving-uncut task ledger AtFeedFault turns old new there refl under refl refl) refl
+    finish-uncut task ledger stop.FeedFault turns old new there (serving-uncut task ledger AtFeedFault turns old new there refl under refl refl)
     (record { feed = fails ∙ ap counted calm; disk = there.disk; end = tt })
 
 -- the account of a run whose last turn was cut
@@ -151,6 +143,9 @@ module _ (task : Task) (ledger : List Change) (turns : List TakenTurn) (old mid 
   abbrev all : List TakenTurn
   all = turns ++ taken ∷ []
 
+  abbrev Settles : List TakenTurn → TakenTurn → Type 0
+  Settles front last = map Done (dones last.changes) ≡ settlements (after_turns (entry ledger) front).past last.items
+
   abbrev Wants : List TakenTurn → TakenTurn → Type 0
   Wants front last =
       WantsAtDatagram (rules_by task.policy) (after_turns (entry ledger) front) last ⊎ WantsAtClose (rules_by task.policy) (after_turns (entry ledger) front) last
@@ -160,30 +155,32 @@ module _ (task : Task) (ledger : List Change) (turns : List TakenTurn) (old mid 
     may : IsTrue (cuts_turn ending)
     fits : FitsLimits task.limits all ending
     cut : CutTurn (rules_by task.policy) place taken
+    meant : CutTurn (rules_by task.policy) place (record taken { changes = taken.changes ++ failing })
+    least : length taken.changes ≤ made_of whole (taken.changes ++ failing)
     numbered : AreNumbered (past_after place.past taken.items)
     adds : Adds taken.items place.ledger (taken.changes ++ failing) whole mid.outside.host new.outside.host
     wants : ending ≡ AtWantOfMemory → Wants turns taken
+    settled : ending ≡ AtWantOfMemory → Settles turns taken
     tells : MayTellAt ending taken.items refusal
     fails : FailsNext ending failing (run_of task ledger old.outside.host.faults ending all)
     logs : Logs (turn_lines (rules_by task.policy) place refusal taken) (output_of mid) (output_of new)
 
   cut-adds : (ending : Ending) (refusal : RefusalLine) (failing : List Change) (whole : Bool) → Cuts ending refusal failing whole
-      → Adds (items_in all) ledger (changes_in all ++ failing) whole old.outside.host new.outside.host
+      → AddsTurns (run_of task ledger old.outside.host.faults ending all) (changes_in all ++ failing) old.outside.host new.outside.host
   cut-adds ending refusal failing whole cuts =
-      let more = adds-behind task ledger turns old mid new going taken.items (taken.changes ++ failing) whole cuts.adds in
-      let items : Adds (items_in all) ledger (changes_in turns ++ (taken.changes ++ failing)) whole old.outside.host new.outside.host =
-      subst (λ (items : List Item). Adds items ledger (changes_in turns ++ (taken.changes ++ failing)) whole old.outside.host new.outside.host) (sym (items-push turns taken)) more in
-      subst (λ (changes : List Change). Adds (items_in all) ledger changes whole old.outside.host new.outside.host)
-      (sym (append_assoc (changes_in turns) taken.changes failing) ∙ ap (λ (changes : List Change). changes ++ failing) (sym (changes-push turns taken))) items
+      subst (λ (tried : List Change). AddsTurns (run_of task ledger old.outside.host.faults ending all) tried old.outside.host new.outside.host)
+      (sym (append_assoc (changes_in turns) taken.changes failing) ∙ ap (λ (changes : List Change). changes ++ failing) (sym (changes-push turns taken)))
+      (adds-behind task ledger ending turns old mid new taken (taken.changes ++ failing) whole going cuts.meant cuts.numbered cuts.adds cuts.least)
 
   serving-cut : (ending : Ending) (refusal : RefusalLine) (failing : List Change) (whole : Bool) → Cuts ending refusal failing whole → (ReachesLimit task.limits turns → ⊥)
       → IsServing task (cut_short task ledger old.outside.host.faults ending all refusal failing)
   serving-cut ending refusal failing whole cuts under = record {
     rules = refl;
+    ledger = going.is_ledger;
     legal = record {
       turns = legal-cut (rules_by task.policy) (entry ledger) ending turns taken cuts.may going.whole cuts.cut;
-      no_fault_before = (cut-adds ending refusal failing whole cuts).faults;
-      numbered = numbered-cut task ledger turns taken cuts.numbered;
+      no_fault_before = unfailed-behind task ledger turns old mid new taken (taken.changes ++ failing) whole going cuts.adds;
+      numbered = numbered-cut ledger turns taken cuts.numbered;
     };
     limits = record {
       fits = cuts.fits;
@@ -196,6 +193,9 @@ module _ (task : Task) (ledger : List Change) (turns : List TakenTurn) (old mid 
     memory = λ wants front last placed.
         let one = last-one turns front taken last placed in
         subst (λ (t : TakenTurn). Wants front t) (sym one.1) (subst (λ (f : List TakenTurn). Wants f taken) (sym one.0) (cuts.wants wants));
+    settled = λ wants front last placed.
+        let one = last-one turns front taken last placed in
+        subst (λ (t : TakenTurn). Settles front t) (sym one.1) (subst (λ (f : List TakenTurn). Settles f taken) (sym one.0) (cuts.settled wants));
     opens = tt;
     tells = subst (λ (items : List Item). MayTellAt ending items refusal) (sym (last-push [] turns taken)) cuts.tells;
     fails = cuts.fails;
@@ -231,9 +231,12 @@ finish-disk task ledger turns old mid new turn going calm under takes fails =
       may = refl;
       fits = tt;
       cut = fails.cut;
+      meant = fails.meant;
+      least = let both = length-append taken.changes next in omega (arith, both);
       numbered = fails.numbered;
       adds = fails.adds;
       wants = λ wants. absurd cc;
+      settled = λ wants. absurd cc;
       tells = refl;
       fails = (fails.next, fails.later, refl, planned_is);
       logs = fails.logs;
@@ -262,9 +265,12 @@ finish-memory task ledger turns old mid new turn going calm under takes wants =
       may = refl;
       fits = tt;
       cut = wants.cut;
+      meant = subst (λ (changes : List Change). CutTurn (rules_by task.policy) (after_turns (entry ledger) turns) (record taken { changes = changes })) (sym (append-nil taken.changes)) wants.cut;
+      least = let both = length-append taken.changes [] in omega (arith, both);
       numbered = wants.numbered;
       adds = subst (λ (changes : List Change). Adds taken.items (after_turns (entry ledger) turns).ledger changes true mid.outside.host new.outside.host) (sym (append-nil taken.changes)) wants.adds;
       wants = λ e. wants.cause;
+      settled = λ e. wants.settled;
       tells = wants.may;
       fails = refl;
       logs = wants.logs;

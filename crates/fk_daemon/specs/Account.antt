@@ -1,8 +1,12 @@
 -- What there is to tell of a serving run, and which accounts may be told.
-use Rattle.std.specs.Prelude.{◌≡◌, ◌≢◌, ◌≤◌, Bool, true, false, List, [], ◌∷◌, ◌++◌, IfSome}
+use Rattle.std.specs.Prelude.{◌≡◌, ◌≢◌, ◌≤◌, Bool, true, false, List, [], ◌∷◌, ◌++◌, map, IfSome}
 use Rattle.fk_trace.specs.declared.change.Change.{Change}
-use Rattle.fk_trace.specs.Ledger.{after}
+use Rattle.fk_trace.specs.declared.change.Change.TheVariants.{Done}
+use Rattle.fk_trace.specs.Ledger.{IsLedger, dones}
+use Rattle.fk_trace.specs.Settled.{settlements}
 use Rattle.fk_run.specs.declared.limits.Limits.{Limits}
+use Rattle.fk_run.specs.Place.{entry}
+use Rattle.fk_run.specs.Turn.{TakenTurn, after_turns}
 use Rattle.fk_run.specs.Run.{Run, Ending, changes_of}
 use Rattle.fk_run.specs.Run.Ending.{AtFeedFault, AtDiskFault, AtWantOfMemory}
 use Rattle.fk_run.specs.Legal.{Legal}
@@ -24,7 +28,7 @@ pub record Account : Type 0 where
 
 -- the changes that a crash may show: those of the run, and the one that failed
 abbrev pub tried_changes : Account → List Change
-tried_changes account = after (changes_of account.run) account.failing
+tried_changes account = changes_of account.run ++ account.failing
 
 -- each limit that is given is above 0, and that on the turns has 63 bits
 pub record AreLimits (limits : Limits) : Type 0 where
@@ -50,9 +54,13 @@ OpensFeed Unopened run = (run.turns ≡ []) × (run.ending ≡ AtFeedFault)
 -- A legal run of the daemon for this task.
 pub record IsServing (task : Task) (account : Account) : Type 0 where
   pub rules : account.run.rules ≡ rules_by task.policy
+  pub ledger : IsLedger account.run.ledger
   pub legal : Legal account.run
   pub limits : KeepsLimits task.limits account.run
   pub memory : WantsMemoryWithCause account.run
+  -- where memory is wanting, the settlements of that turn are made
+  pub settled : account.run.ending ≡ AtWantOfMemory → (front : List TakenTurn) (last : TakenTurn) → account.run.turns ≡ front ++ last ∷ []
+      → map Done (dones last.changes) ≡ settlements (after_turns (entry account.run.ledger) front).past last.items
   -- once a ledger was opened memory is wanting in a turn alone
   pub wants : account.run.ending ≡ AtWantOfMemory → account.run.turns ≢ []
   pub opens : OpensFeed account.opening account.run

@@ -1,14 +1,29 @@
 -- What a crash at each moment of a serving run may leave.
-use Rattle.std.specs.Prelude.{ℕ, ◌<◌, ◌≤◌, Bool, List}
+use Rattle.std.specs.Prelude.{ℕ, ◌<◌, ◌≤◌, List, length, take}
+use Rattle.std.specs.List.{AllByRecursion}
 use Rattle.fk_trace.specs.declared.change.Change.{Change}
+use Rattle.fk_trace.specs.Ledger.{after}
+use Rattle.fk_run.specs.Run.{Run, trace_of, changes_of}
+use Rattle.fk_run.specs.Left.{IsLeft}
 use Rattle.fk_host.specs.Disk.{Areas, Told, KeepsPast}
-use Rattle.fk_ledger.specs.Stretch.{Stretch}
+use Rattle.fk_ledger.specs.Holds.{HoldsState}
+use Rattle.fk_child.specs.View.{Moments}
 
--- The moments of a run over a ledger with these changes. Up to the one before the first sync of the journal's area has ended well,
--- each image is one that stood at entry; from then on the calls are one stretch.
-pub record RunMoments (ledger changes : List Change) (whole : Bool) (old new : ℕ → Areas → Type 0) (start finish : Told) : Type 0 where
+-- An image that a crash at the moment leaves of a run: it holds the State of the run's ledger with the first of the changes that
+-- were tried, as many as a crash there leaves of it, and no fewer than `least`.
+pub record HoldsRun (run : Run) (tried : List Change) (least moment : ℕ) (image : Areas) : Type 0 where
+  pub count : ℕ
+  pub enough : least ≤ count
+  pub left : IsLeft run tried moment count
+  pub holds : HoldsState (after run.ledger (take count tried)) image
+
+-- The moments of a run that tried these changes. Up to the one before the first sync of the journal's area has ended well, which
+-- comes before the first turn, each image is one that stood at entry; from then on each is what a crash leaves of the run, and at
+-- exit it has all changes that were made.
+pub record RunMoments (run : Run) (tried : List Change) (old new : ℕ → Areas → Type 0) (start finish : Told) : Type 0 where
   pub past : KeepsPast start.moments old new
   pub unsynced : ℕ
   pub since : start.moments ≤ unsynced
-  pub first : (k : ℕ) (image : Areas) → start.moments < k → k ≤ unsynced → new k image → old start.moments image
-  pub then : Stretch ledger changes whole new new (record start { moments = unsynced }) finish
+  pub before : AllByRecursion (λ item. unsynced < item.moments) (trace_of run)
+  pub first : (moment : ℕ) (image : Areas) → start.moments < moment → moment ≤ unsynced → new moment image → old start.moments image
+  pub then : Moments (HoldsRun run tried) (length (changes_of run)) new new (record start { moments = unsynced }) finish

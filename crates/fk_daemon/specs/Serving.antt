@@ -12,6 +12,7 @@ use Rattle.fk_log.specs.Line.Line.{DiskFailedLine, DamagedLine}
 use Rattle.fk_log.specs.Log.{log_text}
 use Rattle.fk_log.specs.Shown.{shown_text}
 use Rattle.fk_child.specs.View.{View, AddsItems}
+use Rattle.fk_journal.specs.Keeps.{IsOpening, LeavesOthers}
 use Rattle.fk_ledger.specs.Holds.{HoldsLedger, IsLedgerDamagedAt}
 use Rattle.fk_ledger.specs.Stretch.{IsLedgerOpening}
 use Rattle.fk_daemon.specs.declared.task.Task.{Task}
@@ -46,27 +47,34 @@ pub record HasCauses (ending : Ending) (old new : Outside) : Type 0 where
   pub disk : new.host.faults ≡ (if is_whole ending then old.host.faults else counted old.host.faults)
   pub end : EndsFeed ending new.feed.has_ended
 
--- A ledger was opened and served: this is one legal run over it, whose turns the feed gave, whose items are the trace's new end,
--- whose changes are on the disk as far as each moment says, and whose log was printed.
+-- The run of the account was served on the host: over the ledger that it held, with the run's items as the trace's new end, and its
+-- changes on the disk as far as each moment says.
+pub record RunsOn (account : Account) (old new : View) : Type 0 where
+  pub found : IfTold old.told new.told (λ before later. HoldsLedger before.areas account.run.ledger)
+  pub faults : account.run.faults ≡ old.faults
+  pub trace : IfTold old.told new.told (AddsItems (trace_of account.run))
+  pub moments : IfTold old.told new.told (RunMoments account.run (tried_changes account) old.images new.images)
+
+-- A ledger was opened and served: this is one legal run over it, whose turns the feed gave, that was served on the host, and whose
+-- log was printed.
 pub record ServesRun (task : Task) (old new : Outside) (answer : Status) : Type 0 where
   pub account : Account
   pub serving : IsServing task account
-  pub found : IfTold old.host.told new.host.told (λ before later. HoldsLedger before.areas account.run.ledger)
-  pub faults : account.run.faults ≡ old.host.faults
   pub turns : Feeds account.opening task.policy.conf.now.port (turns_of account.run) old.feed.given new.feed.given
-  pub trace : IfTold old.host.told new.host.told (AddsItems (trace_of account.run))
-  pub moments : IfTold old.host.told new.host.told
-      (RunMoments account.run.ledger (tried_changes account) (is_whole account.run.ending) old.host.images new.host.images)
+  pub host : RunsOn account old.host new.host
   pub is_broken : Bool
   pub printed : Prints (log_text task.verbosity account.opening account.refusal account.run) is_broken old.sink new.sink
   pub answered : HasStatus account.run.ending is_broken answer
   pub caused : HasCauses account.run.ending old new
 
 -- The calls of an opening that failed: the trace is as before, and where the areas held a ledger, a crash at any moment leaves it.
+-- Whatever they held, the journal's area has the entries that it had, and the other areas are as before.
 pub record OpensInVain (old new : View) : Type 0 where
   pub trace : IfTold old.told new.told (λ before later. later.trace ≡ before.trace)
   pub moments : (ledger : List Change) → IfTold old.told new.told (λ before later. HoldsLedger before.areas ledger
       → IsLedgerOpening ledger false old.images new.images before later)
+  pub entries : IfTold old.told new.told (IsOpening old.images new.images)
+  pub others : IfTold old.told new.told (LeavesOthers old.images new.images)
 
 -- why no ledger was opened, by the answer, and the one line that says so
 abbrev pub SaysWhyUnopened : Verbosity → Status → Bool → Outside → Outside → Type 0

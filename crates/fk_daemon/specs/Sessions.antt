@@ -1,19 +1,23 @@
 -- What the contracts of this crate's private functions speak of. No public contract cites it, so no caller has to believe it.
-use Rattle.std.specs.Prelude.{◌≡◌, ℕ, ◌+◌, ◌<◌, ◌≤◌, ◌^◌, ◌||◌, nat_le, Bool, true, false, List, [], ◌∷◌, length, Option, Some, None, if◌then◌else◌}
+use Rattle.std.specs.Prelude.{◌≡◌, ◌↔◌, ℕ, ◌+◌, ◌<◌, ◌≤◌, ◌^◌, ◌||◌, nat_le, Bool, true, false, List, [], ◌∷◌, ◌++◌, length, take, Option, Some, None, if◌then◌else◌}
 use Rattle.std.specs.Option.{option_map_or}
+use Rattle.std.specs.List.{flat_map, list_any}
 use Rattle.fk_base.specs.declared.status.Status.{Status}
 use Rattle.fk_base.specs.declared.status.Status.TheVariants as status
 use Rattle.fk_trace.specs.declared.change.Change.{Change}
+use Rattle.fk_trace.specs.Trace.{is_turn}
 use Rattle.fk_trace.specs.Decision.{FeedTurn}
 use Rattle.fk_trace.specs.Ledger.{after, live}
 use Rattle.fk_run.specs.Place.{Place, entry}
 use Rattle.fk_run.specs.Turn.{TakenTurn}
 use Rattle.fk_run.specs.Run.{Run, Ending, turns_of, trace_of, changes_of}
 use Rattle.fk_run.specs.Run.Ending.{AtLimit, AtEnd, AtFeedFault, AtDiskFault, AtWantOfMemory}
+use Rattle.fk_run.specs.Legal.{Legal}
+use Rattle.fk_run.specs.Left.{items_by, crashed}
 use Rattle.fk_run.specs.declared.limits.Limits.{Limits}
 use Rattle.fk_run.specs.Ending.{is_datagram, turn_limit}
 use Rattle.fk_host.specs.Count.{counted}
-use Rattle.fk_host.specs.Disk.{IfTold}
+use Rattle.fk_host.specs.Disk.{Areas, IfTold}
 use Rattle.fk_host.specs.declared.feed.Turn.{Turn}
 use Rattle.fk_host.specs.Feed.{GivesTurns, is_end_input}
 use Rattle.fk_host.specs.Feed.{turns_of as turns_of_feed}
@@ -27,9 +31,9 @@ use Rattle.fk_log.specs.Shown.{shown_text}
 use Rattle.fk_log.specs.Tally.{blank_tally}
 use Rattle.fk_log.specs.Writing.{LogState, Output, Logs, output}
 use Rattle.fk_conf.specs.declared.conf.Conf.{Conf}
-use Rattle.fk_ledger.specs.Holds.{HoldsLedger, IsLedgerDamagedAt}
+use Rattle.fk_ledger.specs.Holds.{HoldsLedger, HoldsState, IsLedgerDamagedAt}
 use Rattle.fk_ledger.specs.Stretch.{IsLedgerOpening}
-use Rattle.fk_child.specs.View.{View, Adds}
+use Rattle.fk_child.specs.View.{View, AddsItems, Moments}
 use Rattle.fk_turn.specs.Daemon.{DaemonState, Scene, AtRest, Rests}
 use Rattle.fk_turn.specs.declared.arrival.Arrival.{Arrival}
 use Rattle.fk_turn.specs.Rules.{rules_by, turn_of}
@@ -40,7 +44,7 @@ use Rattle.fk_daemon.specs.declared.session.Stop.{Stop}
 use Rattle.fk_daemon.specs.declared.session.Stop.TheVariants as stop
 use Rattle.fk_log.specs.Printing.{SinkView, Prints}
 use Rattle.fk_daemon.specs.Outside.{Outside, Feeds}
-use Rattle.fk_daemon.specs.Account.{Account, IsServing, tried_changes, is_whole}
+use Rattle.fk_daemon.specs.Account.{Account, IsServing, tried_changes}
 use Rattle.fk_daemon.specs.Serving.{HasStatus, HasCauses}
 
 -- a session with its feed, its host and its output
@@ -83,6 +87,27 @@ SaysFault verbosity (Damaged place) old new answer =
     (answer ≡ status.Damaged) × ((is_broken : Bool) × Prints (shown_text verbosity (DamagedLine place ∷ [])) is_broken old new)
 SaysFault verbosity NoMemory old new answer = (answer ≡ status.NoMemory) × (new ≡ old)
 
+-- What a crash at the moment leaves of a run, but for what follows of every legal run.
+pub record IsCrashed (run : Run) (tried : List Change) (moment count : ℕ) : Type 0 where
+  pub over : (front : List TakenTurn) (next : TakenTurn) (later : List TakenTurn) → run.turns ≡ front ++ next ∷ later
+      → list_any (λ item. is_turn item.event) (items_by moment next.items) ≡ true → length (flat_map (λ taken. taken.changes) front) ≤ count
+  pub turns : List TakenTurn
+  pub items : trace_of (crashed run turns) ≡ items_by moment (trace_of run)
+  pub changes : changes_of (crashed run turns) ≡ take count tried
+  pub legal : Legal (crashed run turns)
+
+-- an image that a crash at the moment leaves of a run
+pub record HoldsCrash (run : Run) (tried : List Change) (least moment : ℕ) (image : Areas) : Type 0 where
+  pub count : ℕ
+  pub enough : least ≤ count
+  pub left : IsCrashed run tried moment count
+  pub holds : HoldsState (after run.ledger (take count tried)) image
+
+-- what the turns of a run that tried these changes add to the host
+pub record AddsTurns (run : Run) (tried : List Change) (old new : View) : Type 0 where
+  pub trace : IfTold old.told new.told (AddsItems (trace_of run))
+  pub moments : IfTold old.told new.told (Moments (HoldsCrash run tried) (length (changes_of run)) old.images new.images)
+
 -- the session begins with this ledger
 pub record Begins (task : Task) (ledger : List Change) (at : Standing) : Type 0 where
   pub rests : AtRest task.policy.conf.now (scene_of at) (entry ledger)
@@ -117,12 +142,17 @@ ServesTaken task turn (Some stop.DiskFault) place old new = FailsAtDisk task.pol
 ServesTaken task turn (Some stop.NoMemory) place old new = WantsMemory task.policy place turn (scene_of old) (scene_of new)
 ServesTaken task turn (Some _) place old new = ⊥
 
+-- all that is said of the host is as before
+pub record LeavesView (old new : View) : Type 0 where
+  pub told : new.told ≡ old.told
+  pub images : (moment : ℕ) (image : Areas) → new.images moment image ↔ old.images moment image
+  pub faults : new.faults ≡ old.faults
+
 -- nothing but the feed was called, and it gave no turn
 pub record TakesNone (conf : Conf) (place : Place) (old new : Standing) : Type 0 where
   pub session : new.session ≡ old.session
   pub rests : AtRest conf (scene_of new) place
-  pub adds : Adds [] place.ledger [] true old.outside.host new.outside.host
-  pub disk : new.outside.host.faults ≡ old.outside.host.faults
+  pub host : LeavesView old.outside.host new.outside.host
   pub sink : new.outside.sink ≡ old.outside.sink
   pub given : GivesTurns [] old.outside.feed.given new.outside.feed.given
 
@@ -173,7 +203,7 @@ pub record Finishes (task : Task) (ledger : List Change) (how : Stop) (old new :
   pub is : account.run ≡ run_of task ledger old.outside.host.faults (ending_of how) turns
   pub serving : IsServing task account
   pub given : Feeds account.opening task.policy.conf.now.port (turns_of account.run) old.outside.feed.given new.outside.feed.given
-  pub adds : Adds (trace_of account.run) ledger (tried_changes account) (is_whole (ending_of how)) old.outside.host new.outside.host
+  pub adds : AddsTurns account.run (tried_changes account) old.outside.host new.outside.host
   pub caused : HasCauses (ending_of how) old.outside new.outside
   pub logs : Logs (lines_before_end account.opening account.refusal account.run) (output_of old) (output_of new)
   pub parks : OwesItsLive new.session.daemon

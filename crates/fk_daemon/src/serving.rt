@@ -10,6 +10,7 @@ use crate::opening::{open_daemon, say_fault};
 use crate::session::Session;
 use fk_base::Status;
 use fk_host::{Feed, Host, Sink};
+use fk_run::legal_runs_keep_the_headline;
 use std::alloc::Global;
 
 /// Serves turns of the feed until a limit is reached, the feed has ended or something failed.
@@ -29,6 +30,7 @@ pub fn serve<E: Feed, H: Host, K: Sink>(
 {
     match open_daemon(alloc, task.policy.conf, host) {
         Ok(daemon) => {
+            legal_runs_keep_the_headline();
             let mut session = Session::new(daemon, task.verbosity);
             let stop = session.run(task, feed, host, out);
             session.end(stop, out)

@@ -87,7 +87,7 @@ let_in_by access place stanza arrival shape here grants =
     let some = some_grant access 1 place stanza arrival here grants in
     let is : admitted access arrival ≡ Ok some.0 =
     ap (λ f. admitted_by f access arrival) shape ∙ ap (λ (o : Option Grant). ok_or o (why access arrival)) some.1 in
-    let first = first_of_all access arrival some.0 is in
+    let first = (first_of_all access arrival some.0 is).1 in
     record {
       grant = some.0;
       granted = is;

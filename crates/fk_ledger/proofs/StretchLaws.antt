@@ -140,7 +140,7 @@ image_before old new x y left image here =
     ]
 
 -- what the disk keeps, each image of it holds
-image_holds : (ledger : List Change) (x : Told) (old : ℕ → Areas → Type 0) → KeepsLedger ledger (Some x) old → (image : Areas) → old x.moments image → HoldsState (ledger ++ []) image
+pub image_holds : (ledger : List Change) (x : Told) (old : ℕ → Areas → Type 0) → KeepsLedger ledger (Some x) old → (image : Areas) → old x.moments image → HoldsState (ledger ++ []) image
 image_holds ledger x old keeps image here =
     subst (λ (ledger : List Change). HoldsState ledger image) (sym (append-nil ledger)) (held_state ledger image (record {
       entries = settled_holds (ledger_contents ledger) x old keeps.held.0 keeps.held.1 image here;

@@ -1,5 +1,5 @@
 //! What follows from the definitions alone. Each function is a law, and does nothing.
-ghost use Rattle.std.specs.Prelude.{◌≡◌, ℕ, ◌≤◌, Bool, true, false, List, []};
+ghost use Rattle.std.specs.Prelude.{◌≡◌, ℕ, ◌≤◌, Bool, true, false, List, [], ◌++◌};
 ghost use Rattle.fk_host.specs.Disk.{Areas, IfTold, LeavesAreas};
 ghost use Rattle.fk_trace.specs.declared.change.Change.{Change};
 ghost use Rattle.fk_trace.specs.Ledger.{after};
@@ -30,7 +30,7 @@ pub fn adjoining_stretches_are_one<D: Disk>(first: &D, second: &D, third: &D)
     ensures { (ledger a b : List Change) (whole : Bool)
         → IfTold (D.told first.now) (D.told second.now) (Stretch ledger a true (D.may_leave first.now) (D.may_leave second.now))
         → IfTold (D.told second.now) (D.told third.now) (Stretch (after ledger a) b whole (D.may_leave second.now) (D.may_leave third.now))
-        → IfTold (D.told first.now) (D.told third.now) (Stretch ledger (after a b) whole (D.may_leave first.now) (D.may_leave third.now)) }
+        → IfTold (D.told first.now) (D.told third.now) (Stretch ledger (a ++ b) whole (D.may_leave first.now) (D.may_leave third.now)) }
 {}
 
 /// What stood up to any moment of a stretch is a stretch.

@@ -11,4 +11,6 @@ pub mod Starts
 pub mod Owed
 pub mod Makes
 pub mod RowParts
+pub mod Cutting
 mod WorkedRows
+mod LeftRows

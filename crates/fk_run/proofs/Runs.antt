@@ -4,7 +4,7 @@ use Rattle.std.proofs.Common.{◌≡◌, ◌≢◌, ℕ, ◌+◌, ◌≤◌, tru
 use Rattle.std.specs.Prelude.{IsTrue}
 use Rattle.std.specs.List.{AllPairs, Contains, range_with_len}
 use Rattle.std.proofs.lemmas.List.{map-append, length-map}
-use Rattle.std.proofs.lemmas.List.Elements.{Contains-append_left}
+use Rattle.std.proofs.lemmas.List.Elements.{Contains-append_cases, Contains-append_left}
 use Rattle.std.proofs.lemmas.Grind.{flat_map-append}
 use Rattle.fk_base.specs.declared.purpose.Purpose.{Purpose}
 use Rattle.fk_base.specs.declared.purpose.Purpose.TheVariants.{Open, Close}
@@ -18,10 +18,10 @@ use Rattle.fk_trace.specs.Settled.{settled_in, EndedCleanly}
 use Rattle.fk_trace.specs.Attempts.{IsAttempt, IsNoPoll}
 use Rattle.fk_trace.proofs.Splits.{cases_joined, Contains-place, Contains-recursion, AllPairs-front, range-joined, range-front}
 use Rattle.fk_trace.proofs.Ledgers.{opens-append, dones-append, next_id-append}
-use Rattle.fk_trace.proofs.Settled.{settled_in-append}
+use Rattle.fk_trace.proofs.Settled.{ends-later, ends-longer, settled_in-append}
 use Rattle.fk_run.specs.Place.{Place, entry}
 use Rattle.fk_run.specs.Turn.{TakenTurn, WholeTurn, CutTurn, after_turn, after_turns}
-use Rattle.fk_run.specs.Run.{Run, Ending, cuts_turn, trace_of}
+use Rattle.fk_run.specs.Run.{Run, Ending, changes_of, cuts_turn, trace_of}
 use Rattle.fk_run.specs.Legal.{Legal, LegalTurns}
 use Rattle.fk_run.specs.Headline.{turns_begun, opens_attempted, IsTurnOf, StandsInTurn, OpensByGrant, ClosesWhenDue, OpensOnce}
 use Rattle.fk_run.proofs.Items.{none-opened, ended_polled, turns_begun-append, opens_attempted-append}
@@ -162,6 +162,25 @@ ends-run run legal front taken turn id m =
       | inl whole ↦ settles-in_turn whole id m
       | inr cut ↦ ends-cut id cut.2 m
     ]
+
+-- a Done of these turns is that of a record of which a clean close has ended well in them
+settled-turns : (rules : Rules) (ending : Ending) (turns : List TakenTurn) (place : Place) → LegalTurns rules place ending turns → (id : ℕ)
+    → Contains (dones (made_by turns)) id → EndedCleanly place.past (items_of turns) id
+settled-turns rules ending [] place legal id m = absurd (omega (arith, m.1))
+settled-turns rules ending (taken ∷ later) place (inl whole) id m =
+    elim (Contains-append_cases (dones taken.changes) (dones (made_by later)) id (subst (λ (ids : List ℕ). Contains ids id) (dones-append taken.changes (made_by later)) m)) [
+      | inl here ↦ ends-longer place.past taken.items (items_of later) id (settles-in_turn whole.0 id here)
+      | inr there ↦ ends-later place.past taken.items (items_of later) id (settled-turns rules ending later (after_turn place taken) whole.1 id there)
+    ]
+settled-turns rules ending (taken ∷ later) place (inr cut) id m =
+    elim (Contains-append_cases (dones taken.changes) (dones (made_by later)) id (subst (λ (ids : List ℕ). Contains ids id) (dones-append taken.changes (made_by later)) m)) [
+      | inl here ↦ ends-longer place.past taken.items (items_of later) id (ends-cut id cut.2 here)
+      | inr there ↦ absurd (let none = subst (λ (turns : List TakenTurn). Contains (dones (made_by turns)) id) cut.1 there in omega (arith, none.1))
+    ]
+
+-- and so is each of a run, however it ends
+pub settled-run : (run : Run) → Legal run → (id : ℕ) → Contains (dones (changes_of run)) id → EndedCleanly [] (trace_of run) id
+settled-run run legal id m = settled-turns run.rules run.ending run.turns (entry run.ledger) legal.turns id m
 
 -- the records of these turns: numbered on from the ledger, each opened once but perhaps for the last, with new digests
 record OpensEach (ending : Ending) (ledger : List Change) (trace : List Item) (changes : List Change) : Type 0 where

@@ -5,3 +5,4 @@ pub mod Planned
 pub mod Legal
 pub mod Ending
 pub mod Headline
+pub mod Left

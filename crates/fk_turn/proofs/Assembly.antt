@@ -1,5 +1,5 @@
 -- A turn is served by its four parts, whole or cut.
-use Rattle.std.proofs.Common.{◌≡◌, ℕ, ◌≤◌, ◌||◌, ◌&&◌, ◌==◌, Bool, true, false, not, cond, nat_le, List, [], ◌∷◌, ◌++◌, map, Result, Ok, Err, inl, inr, refl, sym, ap, subst, ◌∙◌, append_assoc, append-nil, arith}
+use Rattle.std.proofs.Common.{◌≡◌, ◌⊎◌, ℕ, ◌≤◌, ◌||◌, ◌&&◌, ◌==◌, Bool, true, false, not, cond, nat_le, List, [], ◌∷◌, ◌++◌, map, Result, Ok, Err, inl, inr, refl, sym, ap, subst, ◌∙◌, append_assoc, append-nil, length, length-append, ◌+◌, arith}
 use Rattle.std.specs.Prelude.{IsErrAnd}
 use Rattle.std.specs.List.{AllByRecursion, AllZip, Contains, filter, list_any}
 use Rattle.std.proofs.lemmas.Bool.{leb-true}
@@ -11,11 +11,13 @@ use Rattle.fk_trace.specs.declared.change.Change.TheVariants.{Open as OpenChange
 use Rattle.fk_trace.specs.Trace.{Event, Item, Child, running, still_running, begun_by, is_turn, is_close_attempt_of, close_tried, past_after, close_attempted}
 use Rattle.fk_trace.specs.Ledger.{live, seen, after, opens, dones, IsLedger}
 use Rattle.fk_trace.specs.Decision.{FeedTurn, Answer, answer, recorded_by}
+use Rattle.fk_trace.specs.Settled.{settlements}
 use Rattle.fk_trace.specs.Attempts.{IsPollOf}
 use Rattle.fk_trace.specs.Idle.{ends_after, is_idle}
 use Rattle.fk_trace.proofs.Ledgers.{seen-append_none}
 use Rattle.fk_trace.proofs.Settled.{past_after-append}
 use Rattle.fk_trace.proofs.Lists.{Contains-head, Contains-tail, Contains-cases, Contains-filter, Contains-unmap}
+use Rattle.fk_run.specs.Left.{is_attempt}
 use Rattle.fk_run.specs.Place.{Place, behind, changed}
 use Rattle.fk_run.specs.Turn.{TakenTurn, IsDueIdle, AttemptsEachDue}
 use Rattle.fk_run.proofs.Ledgers.{live-one}
@@ -29,7 +31,7 @@ use Rattle.fk_log.specs.Writing.{Logs}
 use Rattle.fk_conf.specs.declared.conf.Conf.{Conf}
 use Rattle.fk_cycle.specs.Stands.{Obligation, is_due}
 use Rattle.fk_child.specs.Crew.{obligation_of, obligations_but}
-use Rattle.fk_child.specs.View.{View, Adds}
+use Rattle.fk_child.specs.View.{View, MakesCalls, Adds}
 use Rattle.fk_child.specs.Calls.{IsNextClose, NoneIsDue, AttemptsInTurn}
 use Rattle.fk_base.specs.declared.memory.NoMemory.{NoMemory as OutOfMemory}
 use Rattle.fk_turn.specs.declared.policy.Policy.{Policy}
@@ -37,22 +39,22 @@ use Rattle.fk_turn.specs.declared.turn_err.TurnErr.{TurnErr}
 use Rattle.fk_turn.specs.declared.turn_err.TurnErr.TheVariants.{Disk, NoMemory}
 use Rattle.fk_turn.specs.Daemon.{Scene, DaemonStands, AtRest}
 use Rattle.fk_turn.specs.Rules.{rules_by}
-use Rattle.fk_turn.specs.Serving.{Part, joined, reached, Serves, OwesItsLive, ServesWhole, ServesTurn, FailsAtDisk, WantsMemory}
+use Rattle.fk_turn.specs.Serving.{Part, calls_for, joined, reached, Serves, OwesItsLive, ServesWhole, ServesTurn, FailsAtDisk, WantsMemory}
 use Rattle.fk_turn.specs.Parts.{beginning, BeginsTurn, settlement, SettlesWhole, FailsToSettle, answering, Answers, AnswersWhole, FailsToRecord, WantsToAnswer, closing_part, AttemptsCloses, Closes}
-use Rattle.fk_turn.proofs.Items.{Tries, Polls, polls-no_turns, polls-close_none, opened-tries, opened-close_none, polled-polls, all-joined, tried-after, tried-none, tries-no_turns, ends_after-append}
+use Rattle.fk_turn.proofs.Items.{Tries, Polls, polls-no_turns, polls-close_none, opened-tries, opened-close_none, polled-polls, all-joined, tried-after, tried-none, tries-no_turns, ends_after-append, polls-others, tries-attempts}
 use Rattle.fk_turn.proofs.Places.{place-same, serves-join, next-stands, scene_next}
-use Rattle.fk_turn.proofs.Lines.{taken_turn, lines-of, no_refusal-told, dones-recorded, opens-settled}
+use Rattle.fk_turn.proofs.Lines.{taken_turn, lines-of, no_refusal-told, dones-recorded, dones-part, opens-settled}
 use Rattle.fk_turn.proofs.Finishing.{finishes, passing, next-joined, next-tries, turn-tries}
-use Rattle.fk_child.proofs.Images.{adds-append}
+use Rattle.fk_child.proofs.Images.{adds-append, calls-then, calls-same}
 use Rattle.fk_child.proofs.Turns.{attempts-each}
 use Rattle.fk_log.proofs.Logged.{Logs-append}
-use Rattle.fk_turn.proofs.Wholes.{GoesOn, goes-on, settled-ledger, settled_place, given, Begins, whole-turn, closes-place, cut-before, cut-among, planned-turn}
+use Rattle.fk_turn.proofs.Wholes.{GoesOn, goes-on, settled-ledger, settled_place, given, Begins, whole-turn, closes-place, cut-before, cut-among, planned-turn, settles-polled}
 
 -- calls over a ledger that the calls before them have left as it was
-pub adds-onto : (xs ys : List Item) (ledger b : List Change) (whole : Bool) (u v w : View)
+pub adds-onto : (xs ys : List Item) (ledger b : List Change) (whole : Bool) (u v w : View) → (b ≡ []) ⊎ AllByRecursion (λ item. is_attempt item.event ≡ false) xs
     → Adds xs ledger [] true u v → v.faults ≡ u.faults → Adds ys ledger b whole v w → Adds (xs ++ ys) ledger b whole u w
-adds-onto xs ys ledger b whole u v w first same second =
-    adds-append xs ys ledger [] b whole u v w first same (subst (λ (cs : List Change). Adds ys cs b whole v w) (sym (append-nil ledger)) second)
+adds-onto xs ys ledger b whole u v w order first same second =
+    adds-append xs ys ledger [] b (record { attempts = order; others = inl refl }) whole u v w first same (subst (λ (cs : List Change). Adds ys cs b whole v w) (sym (append-nil ledger)) second)
 
 pub part-same : (a b : Part) → a.items ≡ b.items → a.changes ≡ b.changes → a.lines ≡ b.lines → a ≡ b
 part-same a b i c l =
@@ -147,6 +149,10 @@ module _ (policy : Policy) (place : Place) (turn : FeedTurn) (s0 s1 : Scene) (b 
   polls : AllByRecursion Polls b.polled
   polls = polled-polls b.polls.order b.polled b.polls.answered
 
+  -- what begins a turn attempts nothing
+  others : AllByRecursion (λ item. is_attempt item.event ≡ false) (b.start ∷ b.polled)
+  others = (ap is_attempt b.begins, polls-others b.polled polls)
+
   untried : (id : ℕ) → close_tried polled_place.past id ≡ false
   untried id =
       tried-after id b.polled (b.start ∷ place.past) (polls-no_turns b.polled polls)
@@ -182,18 +188,21 @@ module _ (policy : Policy) (place : Place) (turn : FeedTurn) (s0 s1 : Scene) (b 
         taken = taken;
         of_turn = refl;
         cut = cut-before (rules_by policy) place turn b.start b.polled ids begins goes (map Done f.made) unmade all;
+        meant = cut-before (rules_by policy) place turn b.start b.polled ids begins goes (map Done f.made ++ Done f.failed ∷ []) (map Done f.later ++ recorded_by answer_given)
+            (append_assoc (map Done f.made) (Done f.failed ∷ []) (map Done f.later ++ recorded_by answer_given) ∙ all);
         next = Done f.failed;
         later = map Done f.later ++ recorded_by answer_given;
         planned = all ∙ sym (planned-turn (rules_by policy) place turn b.start b.polled ids begins [] taken tt refl (ap (λ (xs : List Item). b.start ∷ xs) (sym (append-nil b.polled))));
         numbered = begun-stands.stands.tied.stands.orderly.numbered;
         adds = subst (λ (xs : List Item). Adds xs place.ledger (map Done f.made ++ Done f.failed ∷ []) false s0.host s2.host) (append-nil (b.start ∷ b.polled))
-            (adds-onto (b.start ∷ b.polled) [] place.ledger (map Done f.made ++ Done f.failed ∷ []) false s0.host s1.host s2.host b.serves.adds b.serves.disk f.adds);
+            (adds-onto (b.start ∷ b.polled) [] place.ledger (map Done f.made ++ Done f.failed ∷ []) false s0.host s1.host s2.host (inr others) b.serves.adds b.serves.disk f.adds);
         disk = f.disk ∙ ap counted b.serves.disk;
         logs = subst (λ (xs : List Line). Logs xs s0.output s2.output)
             (sym (cut-lines Untold f.made [] (map Done f.made) (sym (append-nil (map Done f.made))) refl
             ∙ ap (λ (xs : List Line). (part1.lines ++ map (SettledLine turn.moment) f.made) ++ xs) (no_refusal-told turn.moment turn.input (answer (rules_by policy) (after place.ledger (map Done f.made)) turn))
             ∙ append-nil (part1.lines ++ map (SettledLine turn.moment) f.made)))
             (Logs-append part1.lines (map (SettledLine turn.moment) f.made) s0.output s1.output s2.output b.serves.logs f.logs);
+        book = f.book;
         parks = f.parks;
       }
 
@@ -206,7 +215,7 @@ module _ (policy : Policy) (place : Place) (turn : FeedTurn) (s0 s1 : Scene) (b 
     settled-stands = record { stands = settles.serves.stands; settled = settles.settled }
 
     serves2 : Serves conf turn.moment place part2 s0 s2
-    serves2 = serves-join conf turn.moment place part1 (settlement turn.moment ids) s0 s1 s2 b.serves
+    serves2 = serves-join conf turn.moment place part1 (settlement turn.moment ids) s0 s1 s2 (record { attempts = inr others; others = inl refl }) b.serves
         (subst (λ (at : Place). Serves conf turn.moment at (settlement turn.moment ids) s1 s2) polled-reached settles.serves)
 
     -- the same with plain items
@@ -215,6 +224,10 @@ module _ (policy : Policy) (place : Place) (turn : FeedTurn) (s0 s1 : Scene) (b 
 
     plainly2 : Serves conf turn.moment place plain2 s0 s2
     plainly2 = subst (λ (part : Part). Serves conf turn.moment place part s0 s2) (part-same part2 plain2 (append-nil (b.start ∷ b.polled)) refl refl) serves2
+
+    calls2 : MakesCalls (calls_for (b.start ∷ b.polled) (map Done ids)) s0.host s2.host
+    calls2 = calls-same (calls_for (b.start ∷ b.polled) [] + calls_for [] (map Done ids)) (calls_for (b.start ∷ b.polled) (map Done ids)) s0.host s2.host (omega arith)
+        (calls-then (calls_for (b.start ∷ b.polled) []) (calls_for [] (map Done ids)) s0.host s1.host s2.host b.calls settles.calls)
 
     -- the disk failed while the record was made
     pub fails-recording : (s3 : Scene) → FailsToRecord policy answer_place turn s2 s3 → FailsAtDisk policy place turn s0 s3
@@ -229,16 +242,19 @@ module _ (policy : Policy) (place : Place) (turn : FeedTurn) (s0 s1 : Scene) (b 
           taken = taken;
           of_turn = refl;
           cut = cut-before (rules_by policy) place turn b.start b.polled ids begins goes (map Done ids) (recorded_by answer_given) refl;
+          meant = cut-before (rules_by policy) place turn b.start b.polled ids begins goes (map Done ids ++ OpenChange f.item ∷ []) []
+              (append-nil (map Done ids ++ OpenChange f.item ∷ []) ∙ ap (λ (cs : List Change). map Done ids ++ cs) (sym made));
           next = OpenChange f.item;
           later = [];
           planned = ap (λ (cs : List Change). map Done ids ++ cs) (sym made)
               ∙ sym (planned-turn (rules_by policy) place turn b.start b.polled ids begins [] taken tt refl (ap (λ (xs : List Item). b.start ∷ xs) (sym (append-nil b.polled))));
           numbered = begun-stands.stands.tied.stands.orderly.numbered;
           adds = subst (λ (xs : List Item). Adds xs place.ledger (map Done ids ++ OpenChange f.item ∷ []) false s0.host s3.host) (append-nil (b.start ∷ b.polled))
-              (adds-append (b.start ∷ b.polled) [] place.ledger (map Done ids) (OpenChange f.item ∷ []) false s0.host s2.host s3.host plainly2.adds plainly2.disk f.adds);
+              (adds-append (b.start ∷ b.polled) [] place.ledger (map Done ids) (OpenChange f.item ∷ []) (record { attempts = inr others; others = inr tt }) false s0.host s2.host s3.host plainly2.adds plainly2.disk f.adds);
           disk = f.disk ∙ ap counted plainly2.disk;
           logs = subst (λ (xs : List Line). Logs xs s0.output s3.output) (append-nil plain2.lines ∙ sym lines)
               (Logs-append plain2.lines [] s0.output s2.output s3.output plainly2.logs f.logs);
+          book = f.book;
           parks = f.parks;
         }
 
@@ -251,11 +267,12 @@ module _ (policy : Policy) (place : Place) (turn : FeedTurn) (s0 s1 : Scene) (b 
           | inl e ↦ (
             recorded_by answer_given,
             append_assoc (map Done ids) w.changes (recorded_by answer_given)
-                ∙ ap (λ (cs : List Change). map Done ids ++ (cs ++ recorded_by answer_given)) e,
+                ∙ ap (λ (cs : List Change). map Done ids ++ (cs ++ recorded_by answer_given)) e.0,
           )
-          | inr e ↦ ([], append-nil made ∙ ap (λ (cs : List Change). map Done ids ++ cs) e)
+          | inr e ↦ ([], append-nil made ∙ ap (λ (cs : List Change). map Done ids ++ cs) e.0)
         ] in
-        let none : dones w.changes ≡ [] = elim w.front [ inl e ↦ ap dones e | inr e ↦ ap dones e ∙ dones-recorded answer_given ] in
+        let none : dones w.changes ≡ [] = elim w.front [ inl e ↦ ap dones e.0 | inr e ↦ ap dones e.0 ∙ dones-recorded answer_given ] in
+        let total : length made ≡ length (map Done ids) + length w.changes = length-append (map Done ids) w.changes in
         let lines : List Line = input_lines turn.moment turn.input Untold w.changes answer_given in
         record {
           taken = record { turn = turn; items = b.start ∷ b.polled; changes = made };
@@ -268,14 +285,26 @@ module _ (policy : Policy) (place : Place) (turn : FeedTurn) (s0 s1 : Scene) (b 
             formed = w.formed;
             fresh = λ m. w.fresh (subst (λ (ds : List (List ℕ)). Contains ds ((rules_by policy).digest w.datagram)) (sym (seen-append_none place.ledger (map Done ids) (opens-settled ids))) m);
           });
+          settled = ap (map Done) (dones-part ids w.changes none)
+              ∙ sym (ap (λ (xs : List Item). settlements place.past (b.start ∷ xs)) (sym (append-nil b.polled)) ∙ settles-polled (rules_by policy) place turn b.start b.polled ids begins [] tt);
+          asked = elim w.front [
+            | inl e ↦ inl (
+              ap (λ (cs : List Change). opens (map Done ids ++ cs)) e.0 ∙ ap opens (append-nil (map Done ids)) ∙ opens-settled ids,
+              calls-same (calls_for (b.start ∷ b.polled) (map Done ids) + 0) (calls_for (b.start ∷ b.polled) made) s0.host s3.host (let few = ap length e.0 in omega (arith, total, few))
+                  (calls-then (calls_for (b.start ∷ b.polled) (map Done ids)) 0 s0.host s2.host s3.host calls2 e.1),
+            )
+            | inr e ↦ inr (calls-same (calls_for (b.start ∷ b.polled) (map Done ids) + (calls_for [] w.changes + 1)) (calls_for (b.start ∷ b.polled) made + 1) s0.host s3.host (omega (arith, total))
+                (calls-then (calls_for (b.start ∷ b.polled) (map Done ids)) (calls_for [] w.changes + 1) s0.host s2.host s3.host calls2 e.1))
+          ];
           numbered = begun-stands.stands.tied.stands.orderly.numbered;
           adds = subst (λ (xs : List Item). Adds xs place.ledger made true s0.host s3.host) (append-nil (b.start ∷ b.polled))
-              (adds-append (b.start ∷ b.polled) [] place.ledger (map Done ids) w.changes true s0.host s2.host s3.host plainly2.adds plainly2.disk w.adds);
+              (adds-append (b.start ∷ b.polled) [] place.ledger (map Done ids) w.changes (record { attempts = inr others; others = inr tt }) true s0.host s2.host s3.host plainly2.adds plainly2.disk w.adds);
           disk = w.disk ∙ plainly2.disk;
           told = Untold;
           may = inr (λ id. ap (λ (event : Event). is_close_attempt_of id event || close_attempted b.polled id) b.begins ∙ polls-close_none id b.polled polls);
           logs = subst (λ (xs : List Line). Logs xs s0.output s3.output) (sym (cut-lines Untold ids w.changes made refl none))
               (Logs-append plain2.lines lines s0.output s2.output s3.output plainly2.logs w.logs);
+          book = w.book ∙ append_assoc place.ledger (map Done ids) w.changes;
           parks = w.parks;
         }
 
@@ -303,9 +332,16 @@ module _ (policy : Policy) (place : Place) (turn : FeedTurn) (s0 s1 : Scene) (b 
       plain3 = joined plain2 (answering turn answer_given a.opened)
 
       serves3 : Serves conf turn.moment place plain3 s0 s3
-      serves3 = serves-join conf turn.moment place plain2 (answering turn answer_given a.opened) s0 s2 s3 plainly2 a.serves
+      serves3 = serves-join conf turn.moment place plain2 (answering turn answer_given a.opened) s0 s2 s3
+          (record { attempts = inr others; others = inr (tries-attempts a.opened tries) }) plainly2 a.serves
 
-      module _ (s4 : Scene) (done : AttemptsCloses conf turn.moment close_place s3 s4) where
+      calls3 : MakesCalls (calls_for (b.start ∷ b.polled ++ a.opened) (map Done ids ++ recorded_by answer_given)) s0.host s3.host
+      calls3 =
+          calls-same (calls_for (b.start ∷ b.polled) (map Done ids) + calls_for a.opened (recorded_by answer_given)) (calls_for (b.start ∷ b.polled ++ a.opened) (map Done ids ++ recorded_by answer_given)) s0.host s3.host
+          (let items = length-append b.polled a.opened in let changes = length-append (map Done ids) (recorded_by answer_given) in omega (arith, items, changes))
+          (calls-then (calls_for (b.start ∷ b.polled) (map Done ids)) (calls_for a.opened (recorded_by answer_given)) s0.host s2.host s3.host calls2 a.calls)
+
+      module _ (further : ℕ) (s4 : Scene) (done : AttemptsCloses further conf turn.moment close_place s3 s4) where
         abbrev taken : TakenTurn
         taken = taken_turn (rules_by policy) place Told turn b.start b.polled a.opened done.closed ids (recorded_by answer_given)
 
@@ -326,19 +362,26 @@ module _ (policy : Policy) (place : Place) (turn : FeedTurn) (s0 s1 : Scene) (b 
         serves4 =
             subst (λ (part : Part). Serves conf turn.moment place part s0 s4)
             (part-same (joined plain3 (closing_part turn.moment done.closed)) plain4 refl (append-nil taken.changes) plain-lines)
-            (serves-join conf turn.moment place plain3 (closing_part turn.moment done.closed) s0 s3 s4 serves3
+            (serves-join conf turn.moment place plain3 (closing_part turn.moment done.closed) s0 s3 s4 (record { attempts = inl refl; others = inr (tries-attempts done.closed closed-tries) }) serves3
             (subst (λ (at : Place). Serves conf turn.moment at (closing_part turn.moment done.closed) s3 s4)
             (closes-place (rules_by policy) place turn b.start b.polled ids a.opened) done.serves))
 
+        calls4 : MakesCalls (calls_for taken.items taken.changes + further) s0.host s4.host
+        calls4 =
+            calls-same (calls_for (b.start ∷ b.polled ++ a.opened) taken.changes + (length done.closed + further)) (calls_for taken.items taken.changes + further) s0.host s4.host
+            (let items = length-append (b.polled ++ a.opened) done.closed in omega (arith, items))
+            (calls-then (calls_for (b.start ∷ b.polled ++ a.opened) taken.changes) (length done.closed + further) s0.host s3.host s4.host calls3 done.calls)
+
         -- all was served
-        pub serves-whole : NoneIsDue turn.moment (behind turn.moment close_place done.closed) → ServesWhole policy place turn s0 (scene_next s4)
-        serves-whole none =
+        pub serves-whole : further ≡ 0 → NoneIsDue turn.moment (behind turn.moment close_place done.closed) → ServesWhole policy place turn s0 (scene_next s4)
+        serves-whole zero none =
             let attempts : AttemptsInTurn turn.moment close_place done.closed =
             subst (AttemptsInTurn turn.moment close_place) (append-nil done.closed) (next-joined turn.moment close_place done.closed [] done.attempts none) in
             record {
               taken = taken;
               of_turn = refl;
               whole = whole-turn (rules_by policy) place turn b.start b.polled ids begins a.opened done.closed taken refl a.attempts (each-due done.closed attempts) refl refl;
+              calls = calls-same (calls_for taken.items taken.changes + further) (calls_for taken.items taken.changes) s0.host s4.host (omega (arith, zero)) calls4;
               adds = serves4.adds;
               disk = serves4.disk;
               logs = serves4.logs;
@@ -390,8 +433,8 @@ module _ (policy : Policy) (place : Place) (turn : FeedTurn) (s0 s1 : Scene) (b 
             }
 
         -- memory was wanting for a close
-        pub wants-closing : (closing : OpenRecord) × IsNextClose turn.moment behind_closes closing → WantsMemory policy place turn s0 s4
-        wants-closing next =
+        pub wants-closing : further ≡ 1 → (closing : OpenRecord) × IsNextClose turn.moment behind_closes closing → WantsMemory policy place turn s0 s4
+        wants-closing one next =
             let rest = finishes (passing (is_due behind_closes.past behind_closes.ends turn.moment) (obligations_but [] behind_closes.ledger)) turn.moment behind_closes (omega arith) in
             record {
               taken = taken;
@@ -399,12 +442,17 @@ module _ (policy : Policy) (place : Place) (turn : FeedTurn) (s0 s1 : Scene) (b 
               cut = cut-among (rules_by policy) place turn b.start b.polled ids begins a.opened done.closed rest.0 a.attempts (turn-tries turn.moment behind_closes rest.0 rest.1)
                   (each-due (done.closed ++ rest.0) (next-joined turn.moment close_place done.closed rest.0 done.attempts rest.1));
               cause = inr (close-wanted next.0 next.1);
+              settled = ap (map Done) (dones-part ids (recorded_by answer_given) (dones-recorded answer_given))
+                  ∙ sym (ap (λ (xs : List Item). settlements place.past (b.start ∷ xs)) (append_assoc b.polled a.opened done.closed)
+                  ∙ settles-polled (rules_by policy) place turn b.start b.polled ids begins (a.opened ++ done.closed) (all-joined Tries a.opened done.closed tries closed-tries));
+              asked = inr (calls-same (calls_for taken.items taken.changes + further) (calls_for taken.items taken.changes + 1) s0.host s4.host (omega (arith, one)) calls4);
               numbered = serves4.stands.stands.tied.stands.orderly.numbered;
               adds = serves4.adds;
               disk = serves4.disk;
               told = Told;
               may = inl refl;
               logs = serves4.logs;
+              book = serves4.stands.changes;
               parks = owes-live conf s4 end_place serves4.stands;
             }
 
@@ -429,4 +477,4 @@ module _ {T : Type 0} (policy : Policy) (place : Place) (turn : FeedTurn) (s0 s1
       → Closes {T = T} policy.conf.now turn.moment (close_place policy place turn s0 s1 b s2 settles s3 a) s3 s4 (Err x) → ServesTurn policy place turn s0 s4 r
   cut-at-close s3 a s4 x (Ok y) h closes = absurd h
   cut-at-close s3 a s4 x (Err e) h closes =
-      subst (λ (y : TurnErr). ServesTurn {T = T} policy place turn s0 s4 (Err y)) (sym h) (wants-closing policy place turn s0 s1 b s2 settles s3 a s4 closes.0 closes.1)
+      subst (λ (y : TurnErr). ServesTurn {T = T} policy place turn s0 s4 (Err y)) (sym h) (wants-closing policy place turn s0 s1 b s2 settles s3 a 1 s4 closes.0 refl closes.1)

@@ -1,5 +1,5 @@
 -- The closes that are due are attempted, one after another.
-use Rattle.std.proofs.Common.{◌≡◌, ℕ, suc, ◌+◌, ◌≤◌, ◌==◌, ◌||◌, Bool, true, false, not, cond, List, [], ◌∷◌, ◌++◌, map, Some, Result, Ok, Err, inl, inr, refl, sym, ap, subst, ◌∙◌, append-nil, arith, eq-eqb}
+use Rattle.std.proofs.Common.{◌≡◌, ℕ, suc, ◌+◌, ◌≤◌, ◌==◌, ◌||◌, Bool, true, false, not, cond, List, [], ◌∷◌, ◌++◌, map, length, Some, Result, Ok, Err, inl, inr, refl, sym, ap, subst, ◌∙◌, append-nil, length-append, arith, eq-eqb}
 use Rattle.std.specs.Prelude.{IsErr}
 use Rattle.std.specs.List.{Contains, cons_option, find}
 use Rattle.std.proofs.lemmas.Bool.{eqb-true}
@@ -32,6 +32,7 @@ use Rattle.fk_child.specs.Calls.{Goes, TriesNext, IsNextClose, is_begun}
 use Rattle.fk_turn.specs.Daemon.{Scene, DaemonStands, AtRest, RestsSomehow, scene}
 use Rattle.fk_turn.specs.Serving.{Part, joined, reached, Serves}
 use Rattle.fk_turn.specs.Parts.{AttemptsNext, closing_part, AttemptsCloses, Closes}
+use Rattle.fk_child.proofs.Images.{calls-none, calls-then, calls-same}
 use Rattle.fk_turn.proofs.Logging.{logs-nothing}
 use Rattle.fk_turn.proofs.Places.{place-same, serves-join}
 use Rattle.fk_turn.proofs.Finishing.{passing, count-lt}
@@ -121,15 +122,15 @@ next-more moment place (y ∷ ys) x a n = (a.0, next-more moment (behind moment 
 behind-reached : (moment : ℕ) (place : Place) (xs : List Item) → behind moment place xs ≡ reached moment place (closing_part moment xs)
 behind-reached moment place xs = place-same (behind moment place xs) (reached moment place (closing_part moment xs)) refl refl (sym (append-nil place.ledger)) refl
 
-pub closes-none : (conf : Conf) (moment : ℕ) (place : Place) (at : Scene) → AtRest conf at place → Adds [] place.ledger [] true at.host at.host → AttemptsCloses conf moment place at at
-closes-none conf moment place at rest adds = record { closed = []; attempts = tt; serves = serves-nothing conf moment place at rest.stands adds; settled = rest.settled }
+pub closes-none : (conf : Conf) (moment : ℕ) (place : Place) (at : Scene) → AtRest conf at place → Adds [] place.ledger [] true at.host at.host → AttemptsCloses 0 conf moment place at at
+closes-none conf moment place at rest adds = record { closed = []; calls = calls-none at.host; attempts = tt; serves = serves-nothing conf moment place at rest.stands adds; settled = rest.settled }
 
 -- where the closes so far have led
-pub closes-stands : (conf : Conf) (moment : ℕ) (place : Place) (s0 s1 : Scene) → (done : AttemptsCloses conf moment place s0 s1) → DaemonStands conf s1 (behind moment place done.closed)
+pub closes-stands : (conf : Conf) (moment : ℕ) (place : Place) (s0 s1 : Scene) → (done : AttemptsCloses 0 conf moment place s0 s1) → DaemonStands conf s1 (behind moment place done.closed)
 closes-stands conf moment place s0 s1 done = subst (DaemonStands conf s1) (sym (behind-reached moment place done.closed)) done.serves.stands
 
 module _ (conf : Conf) (moment : ℕ) (place : Place) (s0 : Scene) (book : Book) (turns : ℕ) (c1 c2 : CrewState) (h1 h2 : View) (o1 : Output)
-    (done : AttemptsCloses conf moment place s0 (scene (record { book = book; crew = c1; turns = turns }) h1 o1)) where
+    (done : AttemptsCloses 0 conf moment place s0 (scene (record { book = book; crew = c1; turns = turns }) h1 o1)) where
   abbrev s1 : Scene
   s1 = scene (record { book = book; crew = c1; turns = turns }) h1 o1
 
@@ -137,7 +138,7 @@ module _ (conf : Conf) (moment : ℕ) (place : Place) (s0 : Scene) (book : Book)
   at = behind moment place done.closed
 
   -- further items are attempts
-  module _ (items : List Item) (o2 : Output) (goes : Goes moment at items (crew_host c1 h1) (crew_host c2 h2)) (lines : Logs (attempt_lines moment items) o1 o2) (settled : c2.unsettled ≡ [])
+  module _ (further : ℕ) (items : List Item) (o2 : Output) (goes : Goes (length items + further) moment at items (crew_host c1 h1) (crew_host c2 h2)) (lines : Logs (attempt_lines moment items) o1 o2) (settled : c2.unsettled ≡ [])
       (attempts : AttemptsNext moment place (done.closed ++ items)) where
     abbrev s2 : Scene
     s2 = scene (record { book = book; crew = c2; turns = turns }) h2 o2
@@ -160,14 +161,17 @@ module _ (conf : Conf) (moment : ℕ) (place : Place) (s0 : Scene) (book : Book)
           stands = subst (DaemonStands conf s2) (behind-reached moment at items) stands;
         }
 
-    pub closes-joined : AttemptsCloses conf moment place s0 s2
+    pub closes-joined : AttemptsCloses further conf moment place s0 s2
     closes-joined = record {
       closed = done.closed ++ items;
+      calls = calls-same ((length done.closed + 0) + (length items + further)) (length (done.closed ++ items) + further) s0.host h2
+          (let both = length-append done.closed items in omega (arith, both))
+          (calls-then (length done.closed + 0) (length items + further) s0.host h1 h2 done.calls goes.calls);
       attempts = attempts;
       serves = subst (λ (part : Part). Serves conf moment place part s0 s2)
           (part-same (joined (closing_part moment done.closed) (closing_part moment items)) (closing_part moment (done.closed ++ items)) refl refl
           (sym (filter_map-append (λ (item : Item). attempt_line moment (attempt_of item.event)) done.closed items)))
-          (serves-join conf moment place (closing_part moment done.closed) (closing_part moment items) s0 s1 s2 done.serves
+          (serves-join conf moment place (closing_part moment done.closed) (closing_part moment items) s0 s1 s2 (record { attempts = inl refl; others = inl refl }) done.serves
           (subst (λ (p : Place). Serves conf moment p (closing_part moment items) s1 s2) (behind-reached moment place done.closed) step));
       settled = settled;
     }
@@ -175,7 +179,7 @@ module _ (conf : Conf) (moment : ℕ) (place : Place) (s0 : Scene) (book : Book)
 -- what a loop over the closes keeps
 pub record KeepsClosing (moment : ℕ) (old new : Scene) : Type 0 where
   pub rests : RestsSomehow old
-  pub front : (conf : Conf) (place : Place) → AtRest conf old place → AttemptsCloses conf moment place old new
+  pub front : (conf : Conf) (place : Place) → AtRest conf old place → AttemptsCloses 0 conf moment place old new
 
 -- where it stands
 pub closing-rests : (moment : ℕ) (old new : Scene) (keeps : KeepsClosing moment old new) → RestsSomehow new
@@ -206,7 +210,7 @@ closes-next moment s0 book turns c1 c2 h1 h2 o1 o2 tried keeps tries same line =
       ap (λ (id : ℕ). ClosedLine moment id next.closing.close tried.begun ∷ []) next.numbered
       ∙ ap (λ (b : Bool). ClosedLine moment next.closing.id next.closing.close b ∷ []) next.attempts.2
       ∙ sym (close-line moment next.closing.id next.closing.close attempt.event next.attempts.1) in
-      closes-joined conf moment place s0 book turns c1 c2 h1 h2 o1 done (attempt ∷ []) o2 (next.attempts.3 moment)
+      closes-joined conf moment place s0 book turns c1 c2 h1 h2 o1 done 0 (attempt ∷ []) o2 (next.attempts.3 moment)
       (subst (λ (xs : List Line). Logs xs o1 o2) lines (line next.closing found)) (same ∙ done.settled)
       (next-more moment place done.closed attempt done.attempts (next.closing, next.next, next.attempts.1));
 }
@@ -226,12 +230,12 @@ closes-fewer moment s0 book turns c1 c2 h1 h2 o1 tried keeps tries same =
 
 -- memory was wanting for another one
 pub closes-short : {T : Type 0} (conf : Conf) (moment : ℕ) (place : Place) (s0 : Scene) (book : Book) (turns : ℕ) (c1 c2 : CrewState) (h1 h2 : View) (o1 : Output) (r : Result T NoMemory)
-    → IsErr r → (done : AttemptsCloses conf moment place s0 (scene (record { book = book; crew = c1; turns = turns }) h1 o1))
-    → (closing : OpenRecord) × IsNextClose moment (behind moment place done.closed) closing → Goes moment (behind moment place done.closed) [] (crew_host c1 h1) (crew_host c2 h2) → c2.unsettled ≡ c1.unsettled
+    → IsErr r → (done : AttemptsCloses 0 conf moment place s0 (scene (record { book = book; crew = c1; turns = turns }) h1 o1))
+    → (closing : OpenRecord) × IsNextClose moment (behind moment place done.closed) closing → Goes 1 moment (behind moment place done.closed) [] (crew_host c1 h1) (crew_host c2 h2) → c2.unsettled ≡ c1.unsettled
     → Closes conf moment place s0 (scene (record { book = book; crew = c2; turns = turns }) h2 o1) r
 unfolding closes-joined
 closes-short conf moment place s0 book turns c1 c2 h1 h2 o1 (Ok x) e done next goes same = absurd cc
 closes-short conf moment place s0 book turns c1 c2 h1 h2 o1 (Err x) e done next goes same =
-    let joined = closes-joined conf moment place s0 book turns c1 c2 h1 h2 o1 done [] o1 goes (logs-nothing o1) (same ∙ done.settled)
+    let joined = closes-joined conf moment place s0 book turns c1 c2 h1 h2 o1 done 1 [] o1 goes (logs-nothing o1) (same ∙ done.settled)
     (subst (AttemptsNext moment place) (sym (append-nil done.closed)) done.attempts) in
     (joined, (next.0, subst (λ (xs : List Item). IsNextClose moment (behind moment place xs) next.0) (sym (append-nil done.closed)) next.1))

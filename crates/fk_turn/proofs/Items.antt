@@ -1,5 +1,6 @@
 -- What polls and attempts are, and are not.
 use Rattle.std.proofs.Common.{◌≡◌, ℕ, Bool, true, false, ◌||◌, List, [], ◌∷◌, ◌++◌, Option, Some, None, refl, sym, ap, ◌∙◌}
+use Rattle.std.specs.Prelude.{is_some}
 use Rattle.std.specs.List.{AllByRecursion, AllZip, cons_option}
 use Rattle.fk_base.specs.declared.purpose.Purpose.{Purpose}
 use Rattle.fk_base.specs.declared.purpose.Purpose.TheVariants.{Open}
@@ -10,7 +11,16 @@ use Rattle.fk_trace.specs.Decision.Answer.{Nothing, Refuses, Opens}
 use Rattle.fk_trace.specs.Settled.{settled_at, settled_in}
 use Rattle.fk_trace.specs.Attempts.{IsPollOf, IsAttempt, AttemptsThatOpen, IsNoAttempt, IsNoPoll}
 use Rattle.fk_trace.specs.Idle.{moments_with, ends_after}
+use Rattle.fk_run.specs.Left.{is_attempt}
 use Rattle.fk_log.specs.Log.{poll_line, poll_lines, attempt_lines}
+
+is-attempt : (purpose : Purpose) (words : List (List ℕ)) (event : Event) → IsAttempt purpose words event → is_attempt event ≡ true
+is-attempt purpose words (Turn number) h = absurd h
+is-attempt purpose words (Began number other others) h = refl
+is-attempt purpose words (StartFailed other others) h = refl
+is-attempt purpose words (Ended number good) h = absurd h
+is-attempt purpose words (Runs number) h = absurd h
+is-attempt purpose words (PollFailed number) h = absurd h
 
 -- the item is an attempt
 abbrev pub Tries : Item → Type 0
@@ -198,3 +208,12 @@ tried-none id items past h none = first (close_attempted items id) (close_tried 
     first : (a b : Bool) → a || b ≡ false → a ≡ false
     first true b e = e
     first false b e = refl
+
+-- polls are no attempts, and attempts are
+pub polls-others : (items : List Item) → AllByRecursion Polls items → AllByRecursion (λ item. is_attempt item.event ≡ false) items
+polls-others [] h = tt
+polls-others (item ∷ items) h = (ap is_some (poll-none h.0.0 item.event h.0.1), polls-others items h.1)
+
+pub tries-attempts : (items : List Item) → AllByRecursion Tries items → AllByRecursion (λ item. is_attempt item.event ≡ true) items
+tries-attempts [] h = tt
+tries-attempts (item ∷ items) h = (is-attempt h.0.0 h.0.1 item.event h.0.2, tries-attempts items h.1)

@@ -1,5 +1,5 @@
 -- A datagram is refused, or recorded and opened.
-use Rattle.std.proofs.Common.{◌≡◌, ℕ, Bool, true, false, cond, List, [], ◌∷◌, ◌++◌, Option, Some, None, Result, Ok, Err, inl, inr, refl, sym, ap, subst, ◌∙◌, append-nil}
+use Rattle.std.proofs.Common.{◌≡◌, ℕ, ◌+◌, Bool, true, false, cond, List, [], ◌∷◌, ◌++◌, Option, None, Result, Ok, Err, inl, inr, refl, sym, ap, subst, ◌∙◌, append-nil}
 use Rattle.std.specs.Prelude.{IsErrAnd}
 use Rattle.std.specs.List.{Contains, cons_option}
 use Rattle.fk_base.specs.declared.address.Ip4.{Ip4}
@@ -21,7 +21,7 @@ use Rattle.fk_trace.specs.Attempts.{IsAttempt, AttemptsThatOpen}
 use Rattle.fk_trace.proofs.Grants.{fresh-unseen}
 use Rattle.fk_run.specs.Place.{Place}
 use Rattle.fk_host.specs.Count.{counted}
-use Rattle.fk_host.specs.Disk.{Told, IfTold, Above}
+use Rattle.fk_host.specs.Disk.{IfTold, Above}
 use Rattle.fk_log.specs.Line.{Line}
 use Rattle.fk_log.specs.Line.Line.{RefusedLine, GrantedLine, OpenedLine}
 use Rattle.fk_log.specs.Log.{input_lines, attempt_line, attempt_lines}
@@ -31,7 +31,7 @@ use Rattle.fk_conf.specs.declared.conf.Conf.{Conf}
 use Rattle.fk_ledger.specs.Book.{Book, has_room, live_ids}
 use Rattle.fk_ledger.specs.Holds.{KeepsLedger}
 use Rattle.fk_ledger.specs.Stretch.{Stretch}
-use Rattle.fk_child.specs.View.{View, AddsItems, Adds}
+use Rattle.fk_child.specs.View.{View, MakesCalls, Adds}
 use Rattle.fk_child.specs.Crew.{CrewState, IsTied}
 use Rattle.fk_child.specs.Calls.{Goes, AwaitsOpen, is_begun, recorded}
 use Rattle.fk_turn.specs.declared.policy.Policy.{Policy}
@@ -39,21 +39,16 @@ use Rattle.fk_turn.specs.declared.turn_err.TurnErr.{TurnErr}
 use Rattle.fk_turn.specs.declared.turn_err.TurnErr.TheVariants.{Disk, NoMemory}
 use Rattle.fk_turn.specs.Daemon.{DaemonState, Scene, DaemonStands, AtRest, scene}
 use Rattle.fk_turn.specs.Rules.{rules_by, permit_of}
-use Rattle.fk_turn.specs.Serving.{Serves}
+use Rattle.fk_turn.specs.Serving.{Serves, calls_for}
 use Rattle.fk_turn.specs.Parts.{answer_at, answering, Answers, AnswersWhole, FailsToRecord, WantsToAnswer, IsGrantedBy, IsDraftOf, IsLike, datagram_turn}
-use Rattle.fk_child.proofs.Images.{adds-append}
+use Rattle.fk_child.proofs.Images.{adds-append, adds-change, calls-none, calls-then, calls-same}
 use Rattle.fk_log.proofs.Logged.{Logs-append}
 use Rattle.fk_turn.proofs.Logging.{logs-nothing}
 use Rattle.fk_turn.specs.declared.decision.Draft.{Draft}
+use Rattle.fk_turn.proofs.Items.{tries-attempts}
 use Rattle.fk_turn.proofs.Lines.{no_refusal-told}
 use Rattle.fk_turn.proofs.Assembly.{owes-live}
 use Rattle.fk_turn.proofs.Parting.{crew_host, reached-nothing}
-
--- calls of the disk add no item
-pub no-items : (a b : Option Told) → IfTold a b (λ before later. later.trace ≡ before.trace) → IfTold a b (AddsItems [])
-no-items a None h = tt
-no-items None (Some later) h = absurd h
-no-items (Some before) (Some later) h = record { trace = h ∙ sym (append-nil before.trace); placed = tt }
 
 -- the line of an attempt of an open
 pub open-line : (moment id : ℕ) (words : List (List ℕ)) (event : Event) → IsAttempt (Open id) words event
@@ -92,6 +87,7 @@ refuses policy place moment source datagram why d h o0 o1 e rest adds line =
     record {
       opened = [];
       attempts = subst (λ (a : Answer). AttemptsThatOpen a []) (sym e) refl;
+      calls = calls-same 0 (calls_for [] (recorded_by (answer_at policy place turn))) h h (ap (λ (a : Answer). calls_for [] (recorded_by a)) (sym e)) (calls-none h);
       serves = subst (λ (a : Answer). Serves policy.conf.now moment place (answering turn a []) (scene d h o0) s1) (sym e) serves;
       settled = rest.settled;
     }
@@ -142,13 +138,11 @@ module _ (policy : Policy) (place : Place) (moment : ℕ) (source : Ip4) (datagr
       item = item;
       permit = permit;
       given = opens;
-      adds = record {
-        trace = no-items h0.told h1.told trace;
-        stretch = subst (λ (cs : List Change). IfTold h0.told h1.told (Stretch cs (OpenChange item ∷ []) false h0.images h1.images)) rest.stands.changes stretch;
-        faults = tt;
-      };
+      adds = adds-change place.ledger (OpenChange item) false h0 h1 rest.stands.stands.keeps trace
+          (subst (λ (cs : List Change). IfTold h0.told h1.told (Stretch cs (OpenChange item ∷ []) false h0.images h1.images)) rest.stands.changes stretch);
       disk = faults;
       logs = logs-nothing o0;
+      book = changes ∙ rest.stands.changes;
       parks = rest.stands.stands.tied.owes ∙ ap live_ids (sym (changes ∙ rest.stands.changes));
     }
 
@@ -164,11 +158,8 @@ module _ (policy : Policy) (place : Place) (moment : ℕ) (source : Ip4) (datagr
       changes-are = ap (λ (b : Book). b.changes) kept ∙ ap (λ (cs : List Change). cs ++ OpenChange item ∷ []) rest.stands.changes
 
       adds1 : Adds [] place.ledger (OpenChange item ∷ []) true h0 h1
-      adds1 = record {
-        trace = no-items h0.told h1.told trace;
-        stretch = subst (λ (cs : List Change). IfTold h0.told h1.told (Stretch cs (OpenChange item ∷ []) true h0.images h1.images)) rest.stands.changes stretch;
-        faults = tt;
-      }
+      adds1 = adds-change place.ledger (OpenChange item) true h0 h1 rest.stands.stands.keeps trace
+          (subst (λ (cs : List Change). IfTold h0.told h1.told (Stretch cs (OpenChange item ∷ []) true h0.images h1.images)) rest.stands.changes stretch)
 
       -- its open is yet to be attempted
       pub awaits-open : (id : ℕ) → id ≡ item.id → (KeepsLedger book.changes h1.told h1.images) → AwaitsOpen id item.due item place (crew_host d.crew h1)
@@ -184,32 +175,34 @@ module _ (policy : Policy) (place : Place) (moment : ℕ) (source : Ip4) (datagr
         grant-logs = subst (λ (n : ℕ). Logs (GrantedLine moment source item.id n item.due ∷ []) o0 o1) numbered granted-line
 
         -- memory was wanting in the host's start
-        pub wants-start : Goes moment open_place [] (crew_host d.crew h1) (crew_host crew h2)
+        pub wants-start : MakesCalls 4 h0 h1 → Goes 1 moment open_place [] (crew_host d.crew h1) (crew_host crew h2)
             → WantsToAnswer policy place turn (scene d h0 o0) (scene (record { book = book; crew = crew; turns = d.turns }) h2 o1)
-        wants-start goes = record {
+        wants-start four goes = record {
           source = source;
           datagram = datagram;
           brought = refl;
           formed = granted.formed;
           fresh = fresh-unseen (rules.digest datagram) place.ledger granted.unseen;
           changes = OpenChange item ∷ [];
-          front = inr (sym (ap recorded_by opens));
-          adds = adds-append [] [] place.ledger (OpenChange item ∷ []) [] true h0 h1 h2 adds1 faults goes.adds;
+          front = inr (sym (ap recorded_by opens), calls-same (4 + 1) (calls_for [] (OpenChange item ∷ []) + 1) h0 h2 refl (calls-then 4 1 h0 h1 h2 four goes.calls));
+          adds = adds-append [] [] place.ledger (OpenChange item ∷ []) [] (record { attempts = inl refl; others = inr tt }) true h0 h1 h2 adds1 faults goes.adds;
           disk = goes.disk ∙ faults;
           logs = subst (λ (a : Answer). Logs (input_lines moment turn.input Untold (OpenChange item ∷ []) a) o0 o1) (sym opens) grant-logs;
+          book = changes-are;
           parks = goes.stands.tied.owes ∙ ap live_ids (sym changes-are);
         }
 
         -- its open was attempted
-        pub opens-whole : (opening : List (List ℕ)) (begun : Bool) (attempt : Item) (o2 : Output) → opening ≡ permit.opening → IsAttempt (Open item.id) opening attempt.event → begun ≡ is_begun attempt.event
-            → Goes moment open_place (attempt ∷ []) (crew_host d.crew h1) (crew_host crew h2) → Logs (OpenedLine moment item.id opening begun ∷ []) o1 o2 → crew.unsettled ≡ []
+        pub opens-whole : MakesCalls 4 h0 h1 → (opening : List (List ℕ)) (begun : Bool) (attempt : Item) (o2 : Output) → opening ≡ permit.opening → IsAttempt (Open item.id) opening attempt.event → begun ≡ is_begun attempt.event
+            → Goes 1 moment open_place (attempt ∷ []) (crew_host d.crew h1) (crew_host crew h2) → Logs (OpenedLine moment item.id opening begun ∷ []) o1 o2 → crew.unsettled ≡ []
             → AnswersWhole policy place turn (scene d h0 o0) (scene (record { book = book; crew = crew; turns = d.turns }) h2 o2)
-        opens-whole opening begun attempt o2 words tried is goes line settled =
+        opens-whole four opening begun attempt o2 words tried is goes line settled =
             let s2 : Scene = scene (record { book = book; crew = crew; turns = d.turns }) h2 o2 in
             let lines : OpenedLine moment item.id opening begun ∷ [] ≡ attempt_lines moment (attempt ∷ []) =
             ap (λ (b : Bool). OpenedLine moment item.id opening b ∷ []) is ∙ sym (open-line moment item.id opening attempt.event tried) in
             let serves : Serves policy.conf.now moment place (answering turn (Opens item permit) (attempt ∷ [])) (scene d h0 o0) s2 = record {
-              adds = adds-append [] (attempt ∷ []) place.ledger (OpenChange item ∷ []) [] true h0 h1 h2 adds1 faults goes.adds;
+              adds = adds-append [] (attempt ∷ []) place.ledger (OpenChange item ∷ []) []
+                  (record { attempts = inl refl; others = inr (tries-attempts (attempt ∷ []) ((Open item.id, opening, tried), tt)) }) true h0 h1 h2 adds1 faults goes.adds;
               disk = goes.disk ∙ faults;
               logs = Logs-append (GrantedLine moment source item.id grant.stanza item.due ∷ []) (attempt_lines moment (attempt ∷ [])) o0 o1 o2 grant-logs
                   (subst (λ (xs : List Line). Logs xs o1 o2) lines line);
@@ -224,6 +217,8 @@ module _ (policy : Policy) (place : Place) (moment : ℕ) (source : Ip4) (datagr
             } in
             record {
               opened = attempt ∷ [];
+              calls = calls-same (4 + 1) (calls_for (attempt ∷ []) (recorded_by (answer_at policy place turn))) h0 h2
+                  (ap (λ (a : Answer). calls_for (attempt ∷ []) (recorded_by a)) (sym opens)) (calls-then 4 1 h0 h1 h2 four goes.calls);
               attempts = subst (λ (a : Answer). AttemptsThatOpen a (attempt ∷ [])) (sym opens) (subst (λ (ws : List (List ℕ)). IsAttempt (Open item.id) ws attempt.event) words tried);
               serves = subst (λ (a : Answer). Serves policy.conf.now moment place (answering turn a (attempt ∷ [])) (scene d h0 o0) s2) (sym opens) serves;
               settled = settled;
@@ -280,10 +275,11 @@ wants-before policy place moment source datagram d e h o rest formed unseen adds
       formed = formed;
       fresh = fresh-unseen ((rules_by policy).digest datagram) place.ledger unseen_there;
       changes = [];
-      front = inl refl;
+      front = inl (refl, calls-none h);
       adds = adds;
       disk = refl;
       logs = subst (λ (xs : List Line). Logs xs o o) (sym (no_refusal-told moment at.input (answer_at policy place at))) (logs-nothing o);
+      book = (like-rests policy.conf.now d e h o place like rest).stands.changes ∙ sym (append-nil place.ledger);
       parks = owes-live policy.conf.now (scene e h o) place (like-rests policy.conf.now d e h o place like rest).stands;
     }
 
@@ -301,6 +297,7 @@ pub answers-from : {T : Type 0} (policy : Policy) (place : Place) (at : FeedTurn
 answers-from policy place at d e h o new (Ok x) a = record {
   opened = a.opened;
   attempts = a.attempts;
+  calls = a.calls;
   serves = record { adds = a.serves.adds; disk = a.serves.disk; logs = a.serves.logs; stands = a.serves.stands };
   settled = a.settled;
 }
@@ -311,6 +308,7 @@ answers-from policy place at d e h o new (Err Disk) a = record {
   adds = a.adds;
   disk = a.disk;
   logs = a.logs;
+  book = a.book;
   parks = a.parks;
 }
 answers-from policy place at d e h o new (Err NoMemory) a = record {
@@ -324,6 +322,7 @@ answers-from policy place at d e h o new (Err NoMemory) a = record {
   adds = a.adds;
   disk = a.disk;
   logs = a.logs;
+  book = a.book;
   parks = a.parks;
 }
 
@@ -333,6 +332,7 @@ pub quietly : (policy : Policy) (place : Place) (moment : ℕ) (d : DaemonState)
 quietly policy place moment d h o rest adds = record {
   opened = [];
   attempts = refl;
+  calls = calls-none h;
   serves = record { adds = adds; disk = refl; logs = logs-nothing o; stands = subst (DaemonStands policy.conf.now (scene d h o)) (reached-nothing moment place) rest.stands };
   settled = rest.settled;
 }

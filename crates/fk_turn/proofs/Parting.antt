@@ -1,8 +1,8 @@
 -- The steps of each part of a turn.
-use Rattle.std.proofs.Common.{◌≡◌, ℕ, suc, ◌+◌, ◌≤◌, true, false, List, [], ◌∷◌, ◌++◌, map, length, Result, Ok, Err, refl, sym, ap, subst, ◌∙◌, append_assoc, append-nil, arith}
+use Rattle.std.proofs.Common.{◌≡◌, ℕ, suc, ◌+◌, ◌≤◌, true, false, List, [], ◌∷◌, ◌++◌, map, length, Result, Ok, Err, inl, inr, refl, sym, ap, subst, ◌∙◌, append_assoc, append-nil, arith}
 use Rattle.std.specs.Prelude.{IsErr}
 use Rattle.fk_base.specs.declared.memory.Failed.{Failed}
-use Rattle.std.proofs.lemmas.List.{map-append}
+use Rattle.std.proofs.lemmas.List.{map-append, length-map, length_push}
 use Rattle.fk_trace.specs.declared.change.Change.{Change}
 use Rattle.fk_trace.specs.declared.change.Change.TheVariants.{Done}
 use Rattle.fk_trace.specs.Trace.{Item}
@@ -16,13 +16,13 @@ use Rattle.fk_log.specs.Writing.{Output, Logs}
 use Rattle.fk_conf.specs.declared.conf.Conf.{Conf}
 use Rattle.fk_ledger.specs.Book.{Book, live_ids}
 use Rattle.fk_child.specs.declared.items.EndItem.{EndItem}
-use Rattle.fk_child.specs.View.{View, Adds}
+use Rattle.fk_child.specs.View.{View, MakesCalls, Adds}
 use Rattle.fk_child.specs.Crew.{CrewState, CrewHost, StandsAt}
 use Rattle.fk_child.specs.Calls.{MarksTurn, PollsAll, SettlesFirst, FailsToSettle as FailsToSettleOne}
 use Rattle.fk_turn.specs.Daemon.{Scene, DaemonStands, StandsSomehow, AtRest, scene}
-use Rattle.fk_turn.specs.Serving.{Part, joined, reached, Serves}
+use Rattle.fk_turn.specs.Serving.{Part, joined, reached, Serves, calls_for}
 use Rattle.fk_turn.specs.Parts.{end_line, beginning, BeginsTurn, settlement, SettlesWhole, FailsToSettle, Settles}
-use Rattle.fk_child.proofs.Images.{adds-append}
+use Rattle.fk_child.proofs.Images.{adds-append, calls-none, calls-then, calls-same}
 use Rattle.fk_turn.proofs.Places.{place-same, serves-join}
 use Rattle.fk_turn.proofs.Lines.{ends-lines}
 use Rattle.fk_log.proofs.Logged.{Logs-append}
@@ -63,8 +63,10 @@ begins conf moment number place book turns c0 c1 c2 h0 h1 h2 o0 o1 o2 rest is li
       polled = polls.items;
       begins = marks.event ∙ ap Turn same;
       polls = polls.polled;
+      calls = calls-same (1 + length polls.items) (calls_for (start ∷ polls.items) []) h0 h2 (omega arith)
+          (calls-then 1 (length polls.items) h0 h1 h2 goes.calls polls.goes.calls);
       serves = record {
-        adds = adds-onto (start ∷ []) polls.items place.ledger [] true h0 h1 h2 goes.adds goes.disk polls.goes.adds;
+        adds = adds-onto (start ∷ []) polls.items place.ledger [] true h0 h1 h2 (inl refl) goes.adds goes.disk polls.goes.adds;
         disk = polls.goes.disk ∙ goes.disk;
         logs = subst (λ (xs : List Line). Logs xs o0 o2) lines (Logs-append (TurnLine moment number ∷ []) (map (end_line moment) c2.ends) o0 o1 o2 line ends);
         stands = subst (DaemonStands conf s2) (place-same at (reached moment place (beginning moment place start polls.items)) refl refl (sym (append-nil place.ledger)) refl) stands;
@@ -86,10 +88,11 @@ serves-nothing conf moment place at h adds = record { adds = adds; disk = refl; 
 pub record SettlesFront (conf : Conf) (moment : ℕ) (place : Place) (old new : Scene) : Type 0 where
   pub made : List ℕ
   pub order : old.daemon.crew.unsettled ≡ made ++ new.daemon.crew.unsettled
+  pub calls : MakesCalls (calls_for [] (map Done made)) old.host new.host
   pub serves : Serves conf moment place (settlement moment made) old new
 
 pub settles-none : (conf : Conf) (moment : ℕ) (place : Place) (at : Scene) → DaemonStands conf at place → Adds [] place.ledger [] true at.host at.host → SettlesFront conf moment place at at
-settles-none conf moment place at h adds = record { made = []; order = refl; serves = serves-nothing conf moment place at h adds }
+settles-none conf moment place at h adds = record { made = []; order = refl; calls = calls-none at.host; serves = serves-nothing conf moment place at h adds }
 
 -- one more record is settled
 pub settles-more : (conf : Conf) (moment : ℕ) (place : Place) (s0 : Scene) (id turns : ℕ) (book1 book2 : Book) (c1 c2 : CrewState) (h1 h2 : View) (o1 o2 : Output)
@@ -118,10 +121,13 @@ settles-more conf moment place s0 id turns book1 book2 c1 c2 h1 h2 o1 o2 front f
     record {
       made = front.made ++ id ∷ [];
       order = front.order ∙ ap (λ (ids : List ℕ). front.made ++ ids) first.first ∙ sym (append_assoc front.made (id ∷ []) c2.unsettled);
+      calls = calls-same (calls_for [] (map Done front.made) + 4) (calls_for [] (map Done (front.made ++ id ∷ []))) s0.host h2
+          (let a = length-map front.made Done in let b = length-map (front.made ++ id ∷ []) Done in let d = length_push front.made id in omega (arith, a, b, d))
+          (calls-then (calls_for [] (map Done front.made)) 4 s0.host h1 h2 front.calls first.calls);
       serves = subst (λ (part : Part). Serves conf moment place part s0 s2)
           (part-same (joined (settlement moment front.made) (settlement moment (id ∷ []))) (settlement moment (front.made ++ id ∷ [])) refl
           (sym (map-append Done front.made (id ∷ []))) (sym (map-append (SettledLine moment) front.made (id ∷ []))))
-          (serves-join conf moment place (settlement moment front.made) (settlement moment (id ∷ [])) s0 s1 s2 front.serves step);
+          (serves-join conf moment place (settlement moment front.made) (settlement moment (id ∷ [])) s0 s1 s2 (record { attempts = inr tt; others = inr tt }) front.serves step);
     }
 
 -- none is left
@@ -129,6 +135,7 @@ pub settles-all : (conf : Conf) (moment : ℕ) (place : Place) (s0 s1 : Scene) �
 settles-all conf moment place s0 s1 front none =
     let made : front.made ≡ s0.daemon.crew.unsettled = sym (front.order ∙ ap (λ (ids : List ℕ). front.made ++ ids) none ∙ append-nil front.made) in
     record {
+      calls = subst (λ (ids : List ℕ). MakesCalls (calls_for [] (map Done ids)) s0.host s1.host) made front.calls;
       serves = subst (λ (ids : List ℕ). Serves conf moment place (settlement moment ids) s0 s1) made front.serves;
       settled = none;
     }
@@ -145,9 +152,10 @@ fails-settle conf moment place s0 turns book1 book2 c1 c2 h1 h2 o1 front f =
       failed = f.id;
       later = c2.unsettled;
       order = front.order ∙ ap (λ (ids : List ℕ). front.made ++ ids) f.first;
-      adds = adds-append [] [] place.ledger (map Done front.made) (Done f.id ∷ []) false s0.host h1 h2 front.serves.adds front.serves.disk f.adds;
+      adds = adds-append [] [] place.ledger (map Done front.made) (Done f.id ∷ []) (record { attempts = inr tt; others = inr tt }) false s0.host h1 h2 front.serves.adds front.serves.disk f.adds;
       disk = f.disk ∙ ap counted front.serves.disk;
       logs = front.serves.logs;
+      book = ap (λ (b : Book). b.changes) f.book ∙ front.serves.stands.changes;
       parks = ap (λ (c : CrewState). c.owed) f.crew ∙ owes-live conf s1 (reached moment place (settlement moment front.made)) front.serves.stands
           ∙ ap (λ (b : Book). live_ids b.changes) (sym f.book);
     }

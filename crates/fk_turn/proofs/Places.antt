@@ -1,6 +1,7 @@
 -- The places behind the parts of a turn, and parts that adjoin.
 use Rattle.std.proofs.Common.{◌≡◌, ℕ, ◌+◌, true, refl, sym, ap, subst, ◌∙◌, append_assoc}
 use Rattle.fk_trace.proofs.Settled.{past_after-append}
+use Rattle.fk_run.specs.Left.{MayStandBefore}
 use Rattle.fk_run.specs.Place.{Place}
 use Rattle.fk_conf.specs.declared.conf.Conf.{Conf}
 use Rattle.fk_child.specs.Crew.{CrewHost, StandsAt}
@@ -22,9 +23,10 @@ reached-join moment place a b =
 
 -- parts that adjoin are one
 pub serves-join : (conf : Conf) (moment : ℕ) (place : Place) (a b : Part) (u v w : Scene)
+    → MayStandBefore a.items a.changes b.items b.changes
     → Serves conf moment place a u v → Serves conf moment (reached moment place a) b v w → Serves conf moment place (joined a b) u w
-serves-join conf moment place a b u v w first second = record {
-  adds = adds-append a.items b.items place.ledger a.changes b.changes true u.host v.host w.host first.adds first.disk second.adds;
+serves-join conf moment place a b u v w order first second = record {
+  adds = adds-append a.items b.items place.ledger a.changes b.changes order true u.host v.host w.host first.adds first.disk second.adds;
   disk = second.disk ∙ first.disk;
   logs = Logs-append a.lines b.lines u.output v.output w.output first.logs second.logs;
   stands = subst (DaemonStands conf w) (reached-join moment place a b) second.stands;

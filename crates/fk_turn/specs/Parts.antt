@@ -1,6 +1,6 @@
 -- What each of the four parts of a turn does: its beginning with the polls, the settlements, the answer to what it brought, and the
 -- closes. Only private contracts cite it.
-use Rattle.std.specs.Prelude.{◌≡◌, ◌⊎◌, ℕ, ◌≤◌, length, true, false, List, [], ◌∷◌, ◌++◌, map, None, Result, Ok, Err}
+use Rattle.std.specs.Prelude.{◌≡◌, ◌⊎◌, ℕ, ◌+◌, ◌≤◌, length, true, false, List, [], ◌∷◌, ◌++◌, map, None, Result, Ok, Err}
 use Rattle.std.specs.List.{Contains}
 use Rattle.fk_base.specs.CommandWords.{AreCommandWords}
 use Rattle.fk_base.specs.declared.address.Ip4.{Ip4}
@@ -15,7 +15,7 @@ use Rattle.fk_trace.specs.declared.change.Change.TheVariants.{Open as OpenChange
 use Rattle.fk_trace.specs.declared.refusal.LogWhy.{LogWhy}
 use Rattle.fk_trace.specs.Trace.{Item}
 use Rattle.fk_trace.specs.Trace.Event.{Turn}
-use Rattle.fk_trace.specs.Ledger.{seen, is_seen}
+use Rattle.fk_trace.specs.Ledger.{seen, is_seen, after}
 use Rattle.fk_trace.specs.Decision.{FeedTurn, Permit, Answer, answer, record_of, recorded_by}
 use Rattle.fk_trace.specs.Decision.Input.{Datagram}
 use Rattle.fk_trace.specs.Decision.Answer.{Refuses, Opens}
@@ -34,7 +34,7 @@ use Rattle.fk_ledger.specs.Payloads.{record_bytes}
 use Rattle.fk_child.specs.declared.items.EndItem.{EndItem}
 use Rattle.fk_child.specs.declared.items.PollEnd.{PollEnd}
 use Rattle.fk_child.specs.declared.items.PollEnd.TheVariants.{Good, Bad, Failed as FailedPoll}
-use Rattle.fk_child.specs.View.{Adds}
+use Rattle.fk_child.specs.View.{MakesCalls, Adds}
 use Rattle.fk_child.specs.Calls.{IsNextClose, NoneIsDue}
 use Rattle.fk_turn.specs.declared.policy.Policy.{Policy}
 use Rattle.fk_turn.specs.declared.turn_err.TurnErr.{TurnErr}
@@ -42,7 +42,7 @@ use Rattle.fk_turn.specs.declared.turn_err.TurnErr.TheVariants.{Disk, NoMemory}
 use Rattle.fk_turn.specs.declared.decision.Draft.{Draft}
 use Rattle.fk_turn.specs.Daemon.{DaemonState, Scene}
 use Rattle.fk_turn.specs.Rules.{rules_by, permit_of}
-use Rattle.fk_turn.specs.Serving.{Part, Serves, OwesItsLive}
+use Rattle.fk_turn.specs.Serving.{Part, Serves, OwesItsLive, calls_for}
 
 -- the line of an end, or of a failed poll
 abbrev pub line_of_end : ℕ → Purpose → PollEnd → Line
@@ -67,6 +67,7 @@ pub record BeginsTurn (conf : Conf) (moment : ℕ) (place : Place) (old new : Sc
   pub polled : List Item
   pub begins : start.event ≡ Turn place.number
   pub polls : PollsEachOnce (start ∷ place.past) polled
+  pub calls : MakesCalls (calls_for (start ∷ polled) []) old.host new.host
   pub serves : Serves conf moment place (beginning moment place start polled) old new
   pub unsettled : new.daemon.crew.unsettled ≡ settled_in (start ∷ place.past) polled
 
@@ -76,6 +77,7 @@ settlement moment ids = record { items = []; changes = map Done ids; lines = map
 
 -- all that was to be settled is
 pub record SettlesWhole (conf : Conf) (moment : ℕ) (place : Place) (old new : Scene) : Type 0 where
+  pub calls : MakesCalls (calls_for [] (map Done old.daemon.crew.unsettled)) old.host new.host
   pub serves : Serves conf moment place (settlement moment old.daemon.crew.unsettled) old new
   pub settled : new.daemon.crew.unsettled ≡ []
 
@@ -88,6 +90,7 @@ pub record FailsToSettle (moment : ℕ) (place : Place) (old new : Scene) : Type
   pub adds : Adds [] place.ledger (map Done made ++ Done failed ∷ []) false old.host new.host
   pub disk : new.host.faults ≡ counted old.host.faults
   pub logs : Logs (map (SettledLine moment) made) old.output new.output
+  pub book : new.daemon.book.changes ≡ after place.ledger (map Done made)
   pub parks : OwesItsLive new.daemon
 
 abbrev pub Settles : {T : Type 0} → Conf → ℕ → Place → Scene → Scene → Result T Failed → Type 0
@@ -110,6 +113,7 @@ answering turn given opened = record {
 pub record AnswersWhole (policy : Policy) (place : Place) (turn : FeedTurn) (old new : Scene) : Type 0 where
   pub opened : List Item
   pub attempts : AttemptsThatOpen (answer_at policy place turn) opened
+  pub calls : MakesCalls (calls_for opened (recorded_by (answer_at policy place turn))) old.host new.host
   pub serves : Serves policy.conf.now turn.moment place (answering turn (answer_at policy place turn) opened) old new
   pub settled : new.daemon.crew.unsettled ≡ []
 
@@ -121,6 +125,7 @@ pub record FailsToRecord (policy : Policy) (place : Place) (turn : FeedTurn) (ol
   pub adds : Adds [] place.ledger (OpenChange item ∷ []) false old.host new.host
   pub disk : new.host.faults ≡ counted old.host.faults
   pub logs : Logs [] old.output new.output
+  pub book : new.daemon.book.changes ≡ place.ledger
   pub parks : OwesItsLive new.daemon
 
 -- Memory was wanting for a datagram of the right shape that is not recorded: before its record, or in the host's start behind it.
@@ -131,10 +136,12 @@ pub record WantsToAnswer (policy : Policy) (place : Place) (turn : FeedTurn) (ol
   pub formed : (rules_by policy).misshapen datagram ≡ None
   pub fresh : Contains (seen place.ledger) ((rules_by policy).digest datagram) → ⊥
   pub changes : List Change
-  pub front : (changes ≡ []) ⊎ (changes ≡ recorded_by (answer_at policy place turn))
+  pub front : ((changes ≡ []) × MakesCalls 0 old.host new.host)
+      ⊎ ((changes ≡ recorded_by (answer_at policy place turn)) × MakesCalls (calls_for [] changes + 1) old.host new.host)
   pub adds : Adds [] place.ledger changes true old.host new.host
   pub disk : new.host.faults ≡ old.host.faults
   pub logs : Logs (input_lines turn.moment turn.input Untold changes (answer_at policy place turn)) old.output new.output
+  pub book : new.daemon.book.changes ≡ after place.ledger changes
   pub parks : OwesItsLive new.daemon
 
 abbrev pub Answers : {T : Type 0} → Policy → Place → FeedTurn → Scene → Scene → Result T TurnErr → Type 0
@@ -153,9 +160,10 @@ AttemptsNext moment place (item ∷ items) =
 abbrev pub closing_part : ℕ → List Item → Part
 closing_part moment closed = record { items = closed; changes = []; lines = attempt_lines moment closed }
 
--- these closes were attempted, those that are due next
-pub record AttemptsCloses (conf : Conf) (moment : ℕ) (place : Place) (old new : Scene) : Type 0 where
+-- these closes were attempted, those that are due next, and so many further calls of the host brought nothing
+pub record AttemptsCloses (further : ℕ) (conf : Conf) (moment : ℕ) (place : Place) (old new : Scene) : Type 0 where
   pub closed : List Item
+  pub calls : MakesCalls (length closed + further) old.host new.host
   pub attempts : AttemptsNext moment place closed
   pub serves : Serves conf moment place (closing_part moment closed) old new
   pub settled : new.daemon.crew.unsettled ≡ []
@@ -163,9 +171,9 @@ pub record AttemptsCloses (conf : Conf) (moment : ℕ) (place : Place) (old new 
 -- they are all that are due, or memory was wanting in the host's start of another one
 abbrev pub Closes : {T : Type 0} → Conf → ℕ → Place → Scene → Scene → Result T OutOfMemory → Type 0
 Closes conf moment place old new (Ok _) =
-    (done : AttemptsCloses conf moment place old new) × NoneIsDue moment (behind moment place done.closed)
+    (done : AttemptsCloses 0 conf moment place old new) × NoneIsDue moment (behind moment place done.closed)
 Closes conf moment place old new (Err _) =
-    (done : AttemptsCloses conf moment place old new)
+    (done : AttemptsCloses 1 conf moment place old new)
     × ((closing : OpenRecord) × IsNextClose moment (behind moment place done.closed) closing)
 
 -- a turn that brought this datagram

@@ -1,8 +1,11 @@
 -- What serving a turn does, whole or in part.
-use Rattle.std.specs.Prelude.{◌≡◌, ◌⊎◌, ◌<◌, ℕ, true, false, List, [], ◌∷◌, ◌++◌, Result, Ok, Err}
+use Rattle.std.specs.Prelude.{◌≡◌, ◌⊎◌, ◌<◌, ℕ, ◌+◌, ◌*◌, length, map, true, false, List, [], ◌∷◌, ◌++◌, Result, Ok, Err}
 use Rattle.std.specs.List.{AllPairs}
 use Rattle.fk_trace.specs.declared.change.Change.{Change}
 use Rattle.fk_trace.specs.Trace.{Item, children, past_after}
+use Rattle.fk_trace.specs.declared.change.Change.TheVariants.{Done}
+use Rattle.fk_trace.specs.Ledger.{after, opens, dones}
+use Rattle.fk_trace.specs.Settled.{settlements}
 use Rattle.fk_trace.specs.Decision.{FeedTurn}
 use Rattle.fk_run.specs.Place.{Place, behind, changed}
 use Rattle.fk_run.specs.Turn.{TakenTurn, WholeTurn, CutTurn, after_turn}
@@ -16,7 +19,7 @@ use Rattle.fk_log.specs.Log.RefusalLine.{Told, Untold}
 use Rattle.fk_log.specs.Writing.{Logs}
 use Rattle.fk_conf.specs.declared.conf.Conf.{Conf}
 use Rattle.fk_ledger.specs.Book.{live_ids}
-use Rattle.fk_child.specs.View.{Adds}
+use Rattle.fk_child.specs.View.{MakesCalls, Adds}
 use Rattle.fk_turn.specs.declared.arrival.Arrival.{Arrival}
 use Rattle.fk_turn.specs.declared.policy.Policy.{Policy}
 use Rattle.fk_turn.specs.declared.turn_err.TurnErr.{TurnErr}
@@ -37,6 +40,10 @@ joined a b = record { items = a.items ++ b.items; changes = a.changes ++ b.chang
 abbrev pub reached : ℕ → Place → Part → Place
 reached moment place part = behind moment (changed place part.changes) part.items
 
+-- how many calls of the host bring these items and make these changes: one for each item, and four for each change
+abbrev pub calls_for : List Item → List Change → ℕ
+calls_for items changes = length items + 4 * length changes
+
 -- Such a part of a turn was served from the place. No call of the disk failed.
 pub record Serves (conf : Conf) (moment : ℕ) (place : Place) (part : Part) (old new : Scene) : Type 0 where
   pub adds : Adds part.items place.ledger part.changes true old.host new.host
@@ -53,6 +60,8 @@ pub record ServesWhole (policy : Policy) (place : Place) (turn : FeedTurn) (old 
   pub taken : TakenTurn
   pub of_turn : taken.turn ≡ turn
   pub whole : WholeTurn (rules_by policy) place taken
+  -- the host was not called for anything else
+  pub calls : MakesCalls (calls_for taken.items taken.changes) old.host new.host
   pub adds : Adds taken.items place.ledger taken.changes true old.host new.host
   pub disk : new.host.faults ≡ old.host.faults
   pub logs : Logs (turn_lines (rules_by policy) place Told taken) old.output new.output
@@ -67,20 +76,27 @@ pub record FailsAtDisk (policy : Policy) (place : Place) (turn : FeedTurn) (old 
   pub next : Change
   pub later : List Change
   pub planned : taken.changes ++ next ∷ later ≡ planned_turn (rules_by policy) place taken
+  -- with it, too, the turn is cut
+  pub meant : CutTurn (rules_by policy) place (record taken { changes = taken.changes ++ next ∷ [] })
   -- the host still numbers its children by rising numbers
   pub numbered : AllPairs (λ a b. a.number < b.number) (children (past_after place.past taken.items))
   pub adds : Adds taken.items place.ledger (taken.changes ++ next ∷ []) false old.host new.host
   pub disk : new.host.faults ≡ counted old.host.faults
   pub logs : Logs (turn_lines (rules_by policy) place Untold taken) old.output new.output
+  pub book : new.daemon.book.changes ≡ after place.ledger taken.changes
   pub parks : OwesItsLive new.daemon
 
 -- Memory was wanting in the turn, for one of two causes, and the turn is cut there: the trace, the ledger and the log have what was
--- served before.
+-- served before, all settlements among it. Once a record was made, it was in the host's own start, which was called and brought
+-- nothing.
 pub record WantsMemory (policy : Policy) (place : Place) (turn : FeedTurn) (old new : Scene) : Type 0 where
   pub taken : TakenTurn
   pub of_turn : taken.turn ≡ turn
   pub cut : CutTurn (rules_by policy) place taken
   pub cause : WantsAtDatagram (rules_by policy) place taken ⊎ WantsAtClose (rules_by policy) place taken
+  pub settled : map Done (dones taken.changes) ≡ settlements place.past taken.items
+  pub asked : ((opens taken.changes ≡ []) × MakesCalls (calls_for taken.items taken.changes) old.host new.host)
+      ⊎ MakesCalls (calls_for taken.items taken.changes + 1) old.host new.host
   -- the host still numbers its children by rising numbers
   pub numbered : AllPairs (λ a b. a.number < b.number) (children (past_after place.past taken.items))
   pub adds : Adds taken.items place.ledger taken.changes true old.host new.host
@@ -88,6 +104,7 @@ pub record WantsMemory (policy : Policy) (place : Place) (turn : FeedTurn) (old 
   pub told : RefusalLine
   pub may : MayTellAt AtWantOfMemory taken.items told
   pub logs : Logs (turn_lines (rules_by policy) place told taken) old.output new.output
+  pub book : new.daemon.book.changes ≡ after place.ledger taken.changes
   pub parks : OwesItsLive new.daemon
 
 -- what serving a turn from the place does, by its answer

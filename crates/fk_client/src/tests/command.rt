@@ -89,7 +89,13 @@ fn ends(
     let mut link = MemLink::new();
     let mut out = MemSink::new(alloc, script.room);
     let status = fwknop_run(
-        alloc, &words, &mut files, &mut entropy, moment, &mut link, &mut out,
+        alloc,
+        &words,
+        &mut files,
+        &mut entropy,
+        moment,
+        &mut link,
+        &mut out,
     );
     assert_eq!(rt; out.written(), printed);
     assert_eq!(rt; (status, link.count()), ended);
@@ -132,8 +138,16 @@ fn each_fault_has_its_line_and_status(rt: HostRuntime) -> Result<(), Fail> {
         (b"-k -T", Status::Usage, b"usage modes\n"),
         (b"", Status::FileFault, b"file .fwknoprc missing\n"),
         (b"--rc-file cut", Status::FileFault, b"file cut failed\n"),
-        (b"--rc-file wrong", Status::Config, b"config wrong 2 BadValue\n"),
-        (b"-n none --rc-file rc", Status::Config, b"config rc need NoStanza\n"),
+        (
+            b"--rc-file wrong",
+            Status::Config,
+            b"config wrong 2 BadValue\n",
+        ),
+        (
+            b"-n none --rc-file rc",
+            Status::Config,
+            b"config rc need NoStanza\n",
+        ),
     ];
     for (words, status, printed) in rows {
         ends(&rt, rt.alloc(), free(words), (status, 0), printed)?;
@@ -146,19 +160,61 @@ const WEB: &[u8] = b"-n web --rc-file rc";
 #[test]
 fn entropy_and_output_fail(rt: HostRuntime) -> Result<(), Fail> {
     let failed = (Status::EntropyFault, 0);
-    ends(&rt, rt.alloc(), drawing(b"-k", 95), failed, b"entropy failed\n")?;
-    ends(&rt, rt.alloc(), drawing(WEB, 23), failed, b"entropy failed\n")?;
-    ends(&rt, rt.alloc(), printing(b"-k", 3), (Status::SinkFault, 0), b"KEY")?;
-    ends(&rt, rt.alloc(), printing(b"--version", 8), (Status::SinkFault, 0), b"fwknop 3")?;
-    ends(&rt, rt.alloc(), printing(WEB, 4), (Status::SinkFault, 1), b"sent")?;
-    ends(&rt, rt.alloc(), printing(b"-p 0", 6), (Status::Usage, 0), b"usage ")
+    ends(
+        &rt,
+        rt.alloc(),
+        drawing(b"-k", 95),
+        failed,
+        b"entropy failed\n",
+    )?;
+    ends(
+        &rt,
+        rt.alloc(),
+        drawing(WEB, 23),
+        failed,
+        b"entropy failed\n",
+    )?;
+    ends(
+        &rt,
+        rt.alloc(),
+        printing(b"-k", 3),
+        (Status::SinkFault, 0),
+        b"KEY",
+    )?;
+    ends(
+        &rt,
+        rt.alloc(),
+        printing(b"--version", 8),
+        (Status::SinkFault, 0),
+        b"fwknop 3",
+    )?;
+    ends(
+        &rt,
+        rt.alloc(),
+        printing(WEB, 4),
+        (Status::SinkFault, 1),
+        b"sent",
+    )?;
+    ends(
+        &rt,
+        rt.alloc(),
+        printing(b"-p 0", 6),
+        (Status::Usage, 0),
+        b"usage ",
+    )
 }
 
 #[test]
 fn what_is_asked_for_is_printed(rt: HostRuntime) -> Result<(), Fail> {
     ends(&rt, rt.alloc(), free(b"-k"), (Status::Done, 0), keys())?;
     ends(&rt, rt.alloc(), free(b"--help"), (Status::Done, 0), help())?;
-    ends(&rt, rt.alloc(), free(b"--version"), (Status::Done, 0), VERSION)
+    ends(
+        &rt,
+        rt.alloc(),
+        free(b"--version"),
+        (Status::Done, 0),
+        VERSION,
+    )
 }
 
 #[test]
@@ -171,12 +227,24 @@ fn one_datagram_is_sent(rt: HostRuntime) -> Result<(), Fail> {
     let mut link = MemLink::new();
     let mut out = MemSink::new(alloc, None);
     let ended = fwknop_run(
-        alloc, &words, &mut files, &mut entropy, moment, &mut link, &mut out,
+        alloc,
+        &words,
+        &mut files,
+        &mut entropy,
+        moment,
+        &mut link,
+        &mut out,
     );
-    assert_eq!(rt; (ended, link.count(), link.port()), (Status::Done, 1, 62_201));
+    assert_eq!(rt;
+        (ended, link.count(), link.port()),
+        (Status::Done, 1, 62_201)
+    );
     assert_eq!(rt; link.sent(), datagram());
     assert_eq!(rt; link.server(), b"192.0.2.1".as_slice());
-    assert_eq!(rt; out.written(), b"sent 225 bytes to 192.0.2.1 port 62201\n".as_slice());
+    assert_eq!(rt;
+        out.written(),
+        b"sent 225 bytes to 192.0.2.1 port 62201\n".as_slice()
+    );
     Ok(())
 }
 

@@ -1,14 +1,13 @@
-use Rattle.std.proofs.Common.{◌≡◌, ◌<◌, ◌≤◌, ℕ, false, List, [], ◌∷◌, ◌++◌, length, take, map, get_or, Some, None, eqb, refl, sym, ap, subst, ◌∙◌, arith}
+use Rattle.std.proofs.Common.{◌≡◌, ◌<◌, ℕ, false, List, [], ◌∷◌, ◌++◌, length, take, map, get_or, Some, None, eqb, refl, sym, ap, subst, ◌∙◌, arith}
 use Rattle.std.specs.Prelude.{find}
-use Rattle.std.proofs.lemmas.List.{length-map, get_or-map, take_all}
+use Rattle.std.proofs.lemmas.List.{length-map, take_all}
 use Rattle.fk_trace.specs.declared.change.OpenRecord.{OpenRecord}
 use Rattle.fk_trace.specs.declared.change.Change.{Change}
 use Rattle.fk_trace.specs.Ledger.{live, IsLedger}
-use Rattle.fk_cycle.specs.Kept.{is_kept}
 use Rattle.fk_cycle.specs.Stands.{Obligation, Stands, is_owed}
 use Rattle.fk_cycle.proofs.StandsLemmas.{is_kept-owed}
 use Rattle.fk_ledger.specs.Book.{live_ids}
-use Rattle.fk_child.specs.Crew.{obligation_of, obligations_but}
+use Rattle.fk_child.specs.Crew.{obligation_of}
 use Rattle.fk_child.proofs.Records.{none-before, one-more_owed, owed-all, place-found, place-missed}
 use Rattle.fk_child.proofs.obligations.machine_for.Goals as goal
 

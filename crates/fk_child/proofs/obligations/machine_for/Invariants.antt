@@ -1,4 +1,4 @@
-use Rattle.std.proofs.Common.{◌≡◌, ℕ, [], take, map}
+use Rattle.std.proofs.Common.{[], take, map}
 use Rattle.fk_trace.specs.Ledger.{live}
 use Rattle.fk_cycle.specs.Stands.{Stands}
 use Rattle.fk_child.specs.Crew.{obligation_of}

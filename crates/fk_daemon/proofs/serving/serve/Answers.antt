@@ -3,6 +3,7 @@ use Rattle.fk_child.specs.View.{view_of}
 use Rattle.fk_log.specs.Printing.{sink_by}
 use Rattle.fk_daemon.specs.Outside.{feed_by, outside_by}
 use Rattle.fk_daemon.specs.Serving.{Serves}
+use Rattle.fk_run.proofs.Runs.{settled-run}
 use Rattle.fk_daemon.proofs.Ending.{begun, serves_begun, unopened}
 use Rattle.fk_daemon.proofs.Causing.{serving-counts}
 use Rattle.fk_daemon.proofs.serving.serve.Goals as goal
@@ -30,7 +31,7 @@ returns-in-Ok g c =
     c.new-session.result c.run-stop.new.self (at c.run-stop.new.feed c.run-stop.new.host c.run-stop.new.out) (sink c.end.new.out) c.end.result c.in-Ok.ensures.ok c.new-session.ensures
     (c.run-stop.ensures c.in-Ok.daemon.book.changes
     (begun c.args.task.now (at c.args.feed.now c.args.host.now c.args.out.now) (view c.open_daemon.new.host) c.in-Ok.daemon c.new-session.result c.in-Ok.ensures.ok c.new-session.ensures))
-    c.end.ensures) in
+    c.end.ensures settled-run c.legal_runs_keep_the_headline.ensures.once) in
     let counts = serving-counts c.args.task.now (at c.args.feed.now c.args.host.now c.args.out.now) (at c.run-stop.new.feed c.run-stop.new.host c.end.new.out) c.end.result serves in
     record { serves = serves; feed = counts.feed; disk = counts.disk; sink = counts.sink }
 

@@ -1,6 +1,5 @@
-use Rattle.std.proofs.Common.{◌≡◌, ◌<◌, ◌≤◌, ℕ, length, [], sym, ap, subst, refl, arith, ◌∙◌}
+use Rattle.std.proofs.Common.{◌<◌, ◌≤◌, length, ap, subst, refl, arith, ◌∙◌}
 use Rattle.fk_trace.specs.Trace.{running}
-use Rattle.fk_run.specs.Place.{Place}
 use Rattle.fk_child.specs.Crew.{CrewState, on_host}
 use Rattle.fk_child.specs.Calls.{AtEach}
 use Rattle.fk_child.specs.Private.{state_of, PartlyPolled}

@@ -1,4 +1,4 @@
-use Rattle.std.proofs.Common.{◌≡◌, ℕ, length}
+use Rattle.std.proofs.Common.{◌≡◌, length}
 use Rattle.fk_child.specs.Crew.{on_host}
 use Rattle.fk_child.specs.Calls.{AtEach}
 use Rattle.fk_child.specs.Private.{PartlyPolled}

@@ -1,15 +1,14 @@
-use Rattle.std.proofs.Common.{◌≡◌, ◌<◌, ◌≤◌, ◌+◌, ◌*◌, ℕ, length, List, ◌∷◌, ◌++◌, [], Ok, Err, Some, None, true, cond, sym, ap, subst, refl, arith, ◌∙◌, append_assoc}
+use Rattle.std.proofs.Common.{◌≡◌, List, ◌∷◌, ◌++◌, [], true, sym, ap, subst, refl, arith, ◌∙◌, append_assoc}
 use Rattle.std.specs.Prelude.{IsTrue}
 use Rattle.std.specs.List.{list_any}
 use Rattle.fk_base.specs.declared.purpose.Purpose.{Purpose}
 use Rattle.fk_trace.specs.Trace.{Child}
-use Rattle.fk_run.specs.Place.{Place}
-use Rattle.fk_cycle.specs.Kept.{Kept, has_running}
+use Rattle.fk_cycle.specs.Kept.{has_running}
 use Rattle.fk_host.specs.Host.{is_running}
 use Rattle.fk_child.specs.declared.items.EndItem.{EndItem}
 use Rattle.fk_child.specs.declared.items.PollEnd.{PollEnd}
 use Rattle.fk_child.specs.Crew.{CrewState, on_host, obligations_but}
-use Rattle.fk_child.specs.Private.{state_of, StandsPolling, PollsOne, PollsNext, MayPoll}
+use Rattle.fk_child.specs.Private.{state_of, StandsPolling, PollsOne, PollsNext}
 use Rattle.fk_child.proofs.Images.{moment_of}
 use Rattle.fk_child.proofs.Polls.{tied, among, may-poll, is-kept, end-fits, polls-runs, polls-failed, polls-ended}
 use Rattle.fk_child.proofs.crew.Crew.poll_next.Goals as goal

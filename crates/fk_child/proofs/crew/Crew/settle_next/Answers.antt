@@ -1,8 +1,7 @@
-use Rattle.std.proofs.Common.{◌≡◌, ◌<◌, ℕ, List, [], ◌∷◌, length, Some, true, sym, ap, subst, refl, ◌∙◌, arith, get_or}
+use Rattle.std.proofs.Common.{◌≡◌, ℕ, List, ◌∷◌, Some, sym, ap, subst, refl, ◌∙◌, arith}
 use Rattle.std.specs.Prelude.{slice_get}
 use Rattle.std.specs.List.{Contains, insert, remove}
-use Rattle.fk_ledger.specs.Book.{Book}
-use Rattle.fk_child.specs.Crew.{CrewState, on_host, StandsAt}
+use Rattle.fk_child.specs.Crew.{CrewState, on_host}
 use Rattle.fk_child.specs.Calls.{AtEachOver, SettlesFirst, FailsToSettle}
 use Rattle.fk_child.specs.Private.{state_of}
 use Rattle.fk_child.proofs.Pieces.{insert-removed, slice_get-within}
@@ -44,7 +43,7 @@ returns-in-Ok-clause-settles g c =
     subst (λ (s : CrewState). AtEachOver c.args.ledger.now.changes (SettlesFirst c.id-id.result c.args.ledger.now c.settle.new.self) (on s c.args.host.now) (on crew' c.settle.new.disk)) c.self.view_is
     (λ place e at. settles-first crew crew' old new place c.args.ledger.now c.settle.new.self c.id-id.result c.remove-owed.result e same c.in-Ok.ensures.host.trace
     c.index_of-index.result c.pop_front.new.self.items at first placed c.remove-owed.ensures.items refl refl refl
-    c.in-Ok.ensures.ok c.in-Ok.ensures.keeps c.in-Ok.ensures.moments c.in-Ok.ensures.host.rest c.in-Ok.ensures.cause)
+    c.in-Ok.ensures.ok c.in-Ok.ensures.keeps c.in-Ok.ensures.moments c.in-Ok.ensures.host.rest c.in-Ok.ensures.cause c.in-Ok.ensures.calls)
 
 pub returns-in-Err-clause-settles : goal.returns-in-Err-clause-settles
 returns-in-Err-clause-settles g c =
@@ -63,5 +62,5 @@ returns-in-Err-clause-settles g c =
     ∙ insert-removed c.self.inside.owed.items index c.id-id.result placed in
     subst (λ (s : CrewState). AtEachOver c.args.ledger.now.changes (FailsToSettle c.args.ledger.now c.settle.new.self) (on s c.args.host.now) (on crew' c.settle.new.disk)) c.self.view_is
     (λ place e at. fails-to-settle crew crew' old new place c.args.ledger.now c.settle.new.self c.id-id.result c.remove-owed.result e same c.in-Err.ensures.host.trace
-    c.pop_front.new.self.items first (ap (λ (ids : List ℕ). let s : CrewState = record crew { owed = ids; unsettled = c.pop_front.new.self.items } in s) held)
+    c.pop_front.new.self.items at first (ap (λ (ids : List ℕ). let s : CrewState = record crew { owed = ids; unsettled = c.pop_front.new.self.items } in s) held)
     c.in-Err.ensures.err.1 c.in-Err.ensures.moments c.in-Err.ensures.host.rest c.in-Err.ensures.cause)

@@ -1,7 +1,7 @@
-use Rattle.std.proofs.Common.{◌<◌, ◌≤◌, ◌+◌, ◌*◌, ℕ, length, Ok, Err, true, false, sym, ap, subst, refl, arith, List, ◌≡◌}
+use Rattle.std.proofs.Common.{length, Ok, true, false, sym, ap, subst, refl, arith, ◌≡◌}
 use Rattle.std.specs.List.{list_any}
-use Rattle.fk_cycle.specs.Kept.{Kept, may_begin}
-use Rattle.fk_child.specs.Crew.{CrewState, on_host, StandsSomewhere}
+use Rattle.fk_cycle.specs.Kept.{may_begin}
+use Rattle.fk_child.specs.Crew.{CrewState, on_host}
 use Rattle.fk_child.specs.Calls.{AtEach, Attempts}
 use Rattle.fk_child.specs.Private.{state_of}
 use Rattle.fk_child.proofs.Starts.{one-more, attempts-begun, attempts-failed, attempts-none}

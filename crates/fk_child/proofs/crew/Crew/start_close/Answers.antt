@@ -1,11 +1,9 @@
-use Rattle.std.proofs.Common.{◌≡◌, ℕ, List, [], Some, None, Ok, true, eqb, sym, ap, subst, refl, ◌∙◌}
+use Rattle.std.proofs.Common.{◌≡◌, List, [], Some, None, eqb, sym, ap, subst, ◌∙◌}
 use Rattle.std.specs.Prelude.{find}
 use Rattle.std.proofs.lemmas.Result.{err_from_is_err_and}
 use Rattle.fk_trace.specs.declared.change.OpenRecord.{OpenRecord}
 use Rattle.fk_trace.specs.declared.change.Change.{Change}
 use Rattle.fk_trace.specs.Ledger.{live}
-use Rattle.fk_run.specs.Place.{Place}
-use Rattle.fk_cycle.specs.Kept.{Kept}
 use Rattle.fk_cycle.specs.Stands.{Stands}
 use Rattle.fk_child.specs.Crew.{CrewState, on_host, obligations_but, StandsAt}
 use Rattle.fk_child.specs.Private.{state_of}

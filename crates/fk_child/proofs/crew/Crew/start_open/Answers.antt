@@ -1,4 +1,4 @@
-use Rattle.std.proofs.Common.{◌≡◌, ◌-◌, ℕ, List, [], ◌∷◌, ◌++◌, false, sym, ap, subst, refl, ◌∙◌}
+use Rattle.std.proofs.Common.{◌≡◌, ◌-◌, ℕ, [], ◌∷◌, ◌++◌, false, sym, ap, subst, refl, ◌∙◌}
 use Rattle.fk_base.specs.declared.purpose.Purpose.TheVariants.{Open}
 use Rattle.fk_trace.specs.Orderly.{is_attempted}
 use Rattle.fk_cycle.specs.Kept.{is_kept}

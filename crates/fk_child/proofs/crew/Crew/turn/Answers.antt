@@ -1,9 +1,8 @@
-use Rattle.std.proofs.Common.{sym, ap, subst, refl}
-use Rattle.fk_host.specs.Disk.{Above}
+use Rattle.std.proofs.Common.{subst, refl}
 use Rattle.fk_child.specs.Crew.{CrewState, on_host}
 use Rattle.fk_child.specs.Calls.{AtEach, MarksTurn}
 use Rattle.fk_child.specs.Private.{state_of}
-use Rattle.fk_child.proofs.Ties.{with_host, marks-turn}
+use Rattle.fk_child.proofs.Ties.{marks-turn}
 use Rattle.fk_child.proofs.crew.Crew.turn.Goals as goal
 
 pub returns-clause-marks : goal.returns-clause-marks

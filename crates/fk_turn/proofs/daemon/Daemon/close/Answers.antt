@@ -105,8 +105,8 @@ returns g c =
     let stands = closes-stands conf c.args.moment place s0 (scene (the_view c.self.inside) h1 o1) done in
     let found : StartsClose c.args.moment (Ok None) at was now =
     subst (λ (o : Option Tried). StartsClose c.args.moment (Ok o) at was now) none (c.in_ok-tried.ensures.starts at (sym stands.changes) stands.stands) in
-    let whole : (d : AttemptsCloses conf c.args.moment place s0 (scene (the_view c.self.inside) h1 o1)) × NoneIsDue c.args.moment (behind c.args.moment place d.closed) = (done, found.0) in
-    subst (λ h. (d : AttemptsCloses conf c.args.moment place s0 (scene (record { book = c.self.inside.ledger; crew = c.start_close.new.self; turns = c.self.inside.turns }) (view h) o1))
+    let whole : (d : AttemptsCloses 0 conf c.args.moment place s0 (scene (the_view c.self.inside) h1 o1)) × NoneIsDue c.args.moment (behind c.args.moment place d.closed) = (done, found.0) in
+    subst (λ h. (d : AttemptsCloses 0 conf c.args.moment place s0 (scene (record { book = c.self.inside.ledger; crew = c.start_close.new.self; turns = c.self.inside.turns }) (view h) o1))
     × NoneIsDue c.args.moment (behind c.args.moment place d.closed)) (sym same)
-    (subst (λ (w : CrewState). (d : AttemptsCloses conf c.args.moment place s0 (scene (record { book = c.self.inside.ledger; crew = w; turns = c.self.inside.turns }) h1 o1))
+    (subst (λ (w : CrewState). (d : AttemptsCloses 0 conf c.args.moment place s0 (scene (record { book = c.self.inside.ledger; crew = w; turns = c.self.inside.turns }) h1 o1))
     × NoneIsDue c.args.moment (behind c.args.moment place d.closed)) (sym found.1) whole)

@@ -114,7 +114,7 @@ returns-in_err-begun-in-Ok g c =
     let goes = c.in_err-begun-in-Ok.ensures.starts c.args.draft.item place awaits in
     let wants = wants-start policy place c.args.moment c.args.source datagram grant granted c.args.draft.item draft.item d h0 o0 rest c.record.new.self h1 opens
     c.in-Ok.ensures.host.trace c.in-Ok.ensures.host.rest c.in-Ok.ensures.moments c.in-Ok.ensures.cause c.in-Ok.ensures.ok c.args.stanza stanza o1 c.add-in-Ok.ensures
-    c.start_open.new.self (view c.start_open.new.host) (goes c.args.moment) in
+    c.start_open.new.self (view c.start_open.new.host) c.in-Ok.ensures.calls (goes c.args.moment) in
     wanting policy place (datagram_turn c.args.moment c.args.source datagram) (scene_by view out d c.args.host.now c.args.log.now c.args.out.now) new c.from_residual.result c.from_residual.ensures.1 wants)
 
 pub returns : goal.returns
@@ -141,5 +141,5 @@ returns g c =
     let tried : IsAttempt (Open c.args.draft.item.id) c.args.draft.opening starts.0.event = subst (λ (n : ℕ). IsAttempt (Open n) c.args.draft.opening starts.0.event) c.in-Ok.ensures.owed starts.1 in
     opens-whole policy place c.args.moment c.args.source datagram grant granted c.args.draft.item draft.item d h0 o0 rest c.record.new.self h1 opens
     c.in-Ok.ensures.host.trace c.in-Ok.ensures.host.rest c.in-Ok.ensures.moments c.in-Ok.ensures.cause c.in-Ok.ensures.ok c.args.stanza stanza o1 c.add-in-Ok.ensures
-    c.start_open.new.self (view c.start_open.new.host) c.args.draft.opening c.in_ok-begun-in-Ok.begun starts.0 o2 draft.opening tried starts.2 (starts.3 c.args.moment) c.add-in-Ok-2.ensures
+    c.start_open.new.self (view c.start_open.new.host) c.in-Ok.ensures.calls c.args.draft.opening c.in_ok-begun-in-Ok.begun starts.0 o2 draft.opening tried starts.2 (starts.3 c.args.moment) c.add-in-Ok-2.ensures
     c.in_ok-begun-in-Ok.ensures.rest.0)

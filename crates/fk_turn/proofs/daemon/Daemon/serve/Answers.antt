@@ -1,4 +1,4 @@
-use Rattle.std.proofs.Common.{◌≡◌, ◌+◌, ◌<◌, ◌^◌, sym, ap, subst, ◌∙◌, arith}
+use Rattle.std.proofs.Common.{refl, ◌≡◌, ◌+◌, ◌<◌, ◌^◌, sym, ap, subst, ◌∙◌, arith}
 use Rattle.fk_trace.specs.Decision.{FeedTurn}
 use Rattle.fk_run.specs.Place.{Place}
 use Rattle.fk_child.specs.View.{view_of}
@@ -92,6 +92,6 @@ returns g c =
           let a = c.in_ok-answer.ensures (answer_place c.args.policy.now place turn _ _ b) (settled-stands c.args.policy.now place turn _ _ b _ settles) in
           let closes = c.in_ok-close.ensures c.args.policy.now.conf.now (close_place c.args.policy.now place turn _ _ b _ settles _ a)
           (answered-stands c.args.policy.now place turn _ _ b _ settles _ a) in
-          let whole = serves-whole c.args.policy.now place turn _ _ b _ settles _ a _ closes.0 closes.1 in
+          let whole = serves-whole c.args.policy.now place turn _ _ b _ settles _ a 0 _ closes.0 refl closes.1 in
           subst (λ (d : DaemonState). ServesWhole c.args.policy.now place turn old (scene_by view out (record { book = d.book; crew = d.crew; turns = d.turns + 1 }) c.close.new.host c.close.new.log c.close.new.out)) (sym c.self.view_is) whole;
     }
