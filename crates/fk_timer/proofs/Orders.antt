@@ -1,12 +1,12 @@
 -- Entries stay in the order in which they fall due.
-use Rattle.std.proofs.Common.{◌≡◌, ℕ, ◌==◌, ◌&&◌, ◌||◌, nat_lt, not, Bool, true, false, cond, List, [], ◌∷◌, take, drop, filter, ◌+◌, suc, refl, sym, ap, subst, arith, rules}
+use Rattle.std.proofs.Common.{◌≡◌, ℕ, ◌==◌, nat_lt, not, Bool, true, false, cond, List, [], ◌∷◌, take, drop, filter, ◌+◌, suc, refl, sym, ap, subst, arith, rules}
 use Rattle.std.specs.Prelude.{insert, position, unwrap_or, length, Option, Some, None}
 use Rattle.std.proofs.lemmas.List.Sums.{prefix_len-le-length}
-use Rattle.std.specs.List.{All, list_any, position_or_len}
+use Rattle.std.specs.List.{All, position_or_len}
 use Rattle.std.proofs.lemmas.Bool.Decides.{nat_tests}
 use Rattle.std.proofs.lemmas.List.Elements.{All-append, All-cons, All-nil, All-take, All-drop, All-filter, All-weaker}
 use Rattle.fk_timer.specs.declared.timer.Entry.{Entry}
-use Rattle.fk_timer.specs.Schedule.{precedes, holds, with_entry, without}
+use Rattle.fk_timer.specs.Schedule.{precedes, holds, with_entry}
 use Rattle.fk_timer.specs.Private.{IsInOrder}
 
 -- what precedes an entry precedes what that one precedes
