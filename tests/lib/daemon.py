@@ -1,5 +1,5 @@
 """A built daemon in a folder and on a port of its own, the datagrams that it is sent, and the children that it starts."""
-import os, socket, subprocess, time
+import os, random, socket, subprocess, time
 
 # the most that anything is waited for, in seconds; a busy machine may be slow
 PATIENCE = 120
@@ -9,10 +9,20 @@ class Failure(Exception):
     """What a script has seen that may not be."""
 
 
+# how long a run is begun anew where its port or its journal is not free yet, in seconds
+PAUSE = 5
+
+
 def free_port():
-    with socket.socket(socket.AF_INET, socket.SOCK_DGRAM) as it:
-        it.bind(("127.0.0.1", 0))
-        return it.getsockname()[1]
+    """A port that nobody has, below those that the system hands out to sockets by itself."""
+    while True:
+        port = random.SystemRandom().randrange(10000, 32000)
+        with socket.socket(socket.AF_INET, socket.SOCK_DGRAM) as it:
+            try:
+                it.bind(("0.0.0.0", port))
+            except OSError:
+                continue
+            return port
 
 
 def wait_until(holds, what):
@@ -65,12 +75,28 @@ class Daemon:
             return it.read()
 
     def begin(self, *words):
-        """Starts it with these further words, and waits until it says that it is ready."""
+        """Starts it with these further words, and waits until it says that it is ready.
+
+        A daemon that was killed as it began a child may leave its port and its lock to that child, until that one has become another
+        program. The children of these scripts end soon, but a lock that they kept would last longer than this waits."""
+        end = time.monotonic() + PAUSE
+        while self.runs and time.monotonic() < end:
+            if self.begin_once(words) not in (["disk failed"], ["feed failed"]):
+                return self.expect_ready()
+            time.sleep(0.05)
+        self.begin_once(words)
+        self.expect_ready()
+
+    def begin_once(self, words):
+        """Starts it, waits until it has said something, and answers what."""
         self.runs += 1
         words = [self.program, "-f", "-c", "conf", "-a", "access", *words]
         with open(self.path(f"log{self.runs}"), "w") as log, open(self.path(f"errors{self.runs}"), "w") as errors:
             self.process = subprocess.Popen(words, cwd=self.folder, stdin=subprocess.DEVNULL, stdout=log, stderr=errors)
         wait_until(lambda: self.process.poll() is not None or self.log(), "the daemon did not say that it is ready")
+        return self.log()
+
+    def expect_ready(self):
         if not self.log()[:1] or not self.log()[0].startswith("ready "):
             raise Failure(f"the daemon did not begin: {self.log()}, {self.read(f'errors{self.runs}')!r}")
 

@@ -15,7 +15,7 @@ usage: fwknop [-n NAME] [--rc-file FILE] [-A PAIRS] [-a IP | -s] [-D HOST]
   -s              open it for the address that the packet comes from; no default
   -D HOST         the server's address or name; default: the file's SPA_SERVER
   -p PORT         its UDP port; default: the file's SPA_SERVER_PORT, else 62201
-  -f SECONDS      for how long; default: the file's FW_TIMEOUT, else the server's
+  -f SECONDS      how long; default: the file's FW_TIMEOUT, else the server's
   -T              print the packet and send nothing; default: send it
   -k              print two new keys for both files; the only word
   --help          print this text; the only word

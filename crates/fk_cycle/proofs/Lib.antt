@@ -3,5 +3,6 @@ pub mod FreshLemmas
 pub mod StandsLemmas
 pub mod ActLemmas
 pub mod RankLemmas
+pub mod TimedLemmas
 pub mod DueLemmas
 mod WorkedRow

@@ -1,4 +1,5 @@
 pub mod Kept
 pub mod Stands
 pub mod Acts
+pub mod Private
 pub mod Ranks

@@ -1,17 +1,18 @@
-ghost use Rattle.std.specs.Prelude.{◌≡◌, ℕ, ◌+◌, ◌==◌, if◌then◌else◌, ◌<◌, ◌≤◌, Bool, true, false, List, [], ◌∷◌, ◌++◌, length, map, Option, OnOk};
+ghost use Rattle.std.specs.Prelude.{◌≡◌, ℕ, ◌+◌, ◌==◌, ◌<◌, ◌≤◌, Bool, true, false, List, [], ◌∷◌, ◌++◌, length, map, Option, Some, OnOk};
 ghost use Rattle.std.specs.List.{list_any, find, All, Contains};
-ghost use Rattle.std.specs.Option.{option_copied};
+ghost use Rattle.std.specs.Option.{option_copied, option_map};
 ghost use Rattle.fk_trace.specs.Trace.{Item, Child, children, running};
 ghost use Rattle.fk_trace.specs.Trace.Event.{Turn, Began, StartFailed, Ended};
 ghost use Rattle.fk_trace.specs.Orderly.{is_attempted};
-ghost use Rattle.fk_cycle.specs.Kept.{fresh, noted_turn, noted_begun, noted_not_begun, noted_ended, may_begin, has_running, is_kept, is_ready};
+ghost use Rattle.fk_cycle.specs.Kept.{fresh, noted_turn, noted_begun, noted_not_begun, noted_ended, may_begin, has_running, is_kept};
 ghost use Rattle.fk_cycle.specs.Stands.{Obligation, Stands, IsNextDue};
-ghost use Rattle.fk_cycle.specs.Ranks.{first_of, IsFirstReady};
+ghost use Rattle.fk_cycle.specs.Private.{Waits, entry_of, is_ready_at, IsFirstWaiting};
 ghost use Rattle.fk_cycle.specs.Acts.{act_at, act_by, owed_after, kept_after};
 
 use crate::Act;
 use crate::kept::Kept;
 use fk_base::{Moment, NoMemory, Purpose};
+use fk_timer::Timer;
 use std::alloc::Global;
 use std::marker::Model;
 
@@ -19,15 +20,19 @@ use std::marker::Model;
 #[derive(Drop)]
 pub struct Machine {
     kept: Vec<Kept>,
+    dues: Timer,
 }
 
 impl Model for Machine {
-    ghost use Rattle.std.specs.Prelude.{◌-◌, vec_len, vec_capacity};
+    ghost use Rattle.std.specs.Prelude.{◌-◌, map, min, vec_len, vec_capacity};
     ghost use Rattle.fk_cycle.specs.Kept.{Register};
+    ghost use Rattle.fk_cycle.specs.Private.{IsTimed, entry_of};
 
     ghost Value = { Register };
 
-    ghost view = { λ m. record { kept = m.kept.items; room = vec_capacity m.kept - vec_len m.kept } };
+    ghost view = { λ m. record { kept = m.kept.items; room = min (vec_capacity m.kept - vec_len m.kept) m.dues.room } };
+
+    ghost invariant = { λ m. IsTimed (map entry_of m.kept.items) m.dues.entries };
 }
 
 impl Machine {
@@ -38,6 +43,7 @@ impl Machine {
     {
         Machine {
             kept: Vec::new(alloc),
+            dues: Timer::new(alloc),
         }
     }
 
@@ -55,7 +61,7 @@ impl Machine {
         ensures room { self.old.room ≤ self.new.room }
     {
         self.kept.reserve(1)?;
-        Ok(())
+        self.dues.reserve()
     }
 
     /// A record was made, whose close is due at the second `due`.
@@ -70,6 +76,7 @@ impl Machine {
             → Stands self.new.kept past ends (live ++ record { id = id; due = due } ∷ []) }
     {
         self.kept.push_reserved(Kept::new(id, due));
+        self.dues.put(id, due);
     }
 
     /// A turn began: no close was tried in it yet.
@@ -139,10 +146,7 @@ impl Machine {
             → Stands self.old.kept past ends live
             → IsNextDue past ends moment live result }
     {
-        match self.first_ready(moment) {
-            None => None,
-            Some(rank) => Some(rank.id),
-        }
+        first_ready(&mut self.dues, &self.kept, moment)
     }
 
     /// It keeps something for the record.
@@ -165,16 +169,6 @@ impl Machine {
         ensures { result ≡ list_any (has_running purpose) self.now.kept }
     {
         self.kept.iter().any(|kept| kept.has_running(purpose))
-    }
-
-    fn first_ready(&self, moment: Moment) -> Option<Rank>
-        ensures { IsFirstReady moment self.now.kept result }
-    {
-        let mut first = None;
-        for kept in self.kept.iter() {
-            first = earlier(first, kept, moment);
-        }
-        first
     }
 
     fn note_turn(&mut self)
@@ -220,6 +214,7 @@ impl Machine {
         if let Act::Settle(end) = act {
             let id = end.id();
             self.kept.retain(|kept| kept.id() != id);
+            self.dues.drop_id(id);
         }
     }
 
@@ -238,31 +233,48 @@ impl Machine {
     fn kept_for(&self, id: u64) -> Option<&Kept>
         ensures { option_copied result ≡ find (λ kept. kept.id == id) self.now.kept }
     {
-        self.kept.iter().find(|kept| kept.id() == id)
+        kept_for(&self.kept, id)
     }
 }
 
-/// When a record's turn to be closed comes: by its due, and then by its number.
-#[derive(Clone, Copy)]
-struct Rank {
-    due: u64,
-    id: u64,
-}
-
-/// The first of the records so far, and of this one where a close of it may be attempted.
-fn earlier(first: Option<Rank>, kept: &Kept, moment: Moment) -> Option<Rank>
-    ensures { result ≡ (if is_ready moment kept.now then first_of first (record { due = kept.now.due; id = kept.now.id }) else first) }
+/// The number of the first record whose due has come and of which a close may be attempted. What is taken out of the timer
+/// on the way there is put back. It calls itself once for each record set aside, and so at most as often as records are
+/// kept.
+fn first_ready(dues: &mut Timer, kept: &[Kept], moment: Moment) -> Option<u64>
+    requires { Waits (map entry_of kept.now) dues.old.entries }
+    ensures dues { dues.new ≡ dues.old }
+    ensures first { IsFirstWaiting moment kept.now dues.old.entries result }
 {
-    if !kept.is_ready(moment) {
-        return first;
+    let id = dues.take_due(moment.get())?;
+    let due = due_of(kept, id);
+    if is_ready_at(kept, id, moment) {
+        dues.put(id, due);
+        return Some(id);
     }
-    let rank = Rank {
-        due: kept.due(),
-        id: kept.id(),
-    };
-    match first {
-        Some(other) if other.due < rank.due || (other.due == rank.due && other.id < rank.id) =>
-            first,
-        _ => Some(rank),
+    let first = first_ready(dues, kept, moment);
+    dues.put(id, due);
+    first
+}
+
+fn is_ready_at(kept: &[Kept], id: u64, moment: Moment) -> bool
+    ensures { result ≡ is_ready_at moment kept.now id }
+{
+    kept.iter()
+        .any(|kept| kept.id() == id && kept.is_ready(moment))
+}
+
+fn due_of(kept: &[Kept], id: u64) -> u64
+    requires { is_kept id kept.now ≡ true }
+    ensures { option_map (λ kept. kept.due) (find (λ kept. kept.id == id) kept.now) ≡ Some result }
+{
+    match kept_for(kept, id) {
+        Some(kept) => kept.due(),
+        None => unreachable!(),
     }
+}
+
+fn kept_for(kept: &[Kept], id: u64) -> Option<&Kept>
+    ensures { option_copied result ≡ find (λ kept. kept.id == id) kept.now }
+{
+    kept.iter().find(|kept| kept.id() == id)
 }

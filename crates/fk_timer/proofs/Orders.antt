@@ -1,12 +1,12 @@
 -- Entries stay in the order in which they fall due.
-use Rattle.std.proofs.Common.{◌≡◌, ℕ, ◌==◌, ◌&&◌, ◌||◌, nat_lt, not, Bool, true, false, cond, List, [], ◌∷◌, take, drop, filter, ◌+◌, suc, refl, sym, ap, subst, arith, rules}
+use Rattle.std.proofs.Common.{◌≡◌, ℕ, ◌==◌, nat_lt, not, Bool, true, false, cond, List, [], ◌∷◌, take, drop, filter, ◌+◌, suc, refl, sym, ap, subst, arith, rules}
 use Rattle.std.specs.Prelude.{insert, position, unwrap_or, length, Option, Some, None}
 use Rattle.std.proofs.lemmas.List.Sums.{prefix_len-le-length}
-use Rattle.std.specs.List.{All, list_any, position_or_len}
+use Rattle.std.specs.List.{All, position_or_len}
 use Rattle.std.proofs.lemmas.Bool.Decides.{nat_tests}
 use Rattle.std.proofs.lemmas.List.Elements.{All-append, All-cons, All-nil, All-take, All-drop, All-filter, All-weaker}
 use Rattle.fk_timer.specs.declared.timer.Entry.{Entry}
-use Rattle.fk_timer.specs.Schedule.{precedes, holds, with_entry, without}
+use Rattle.fk_timer.specs.Schedule.{precedes, holds, with_entry}
 use Rattle.fk_timer.specs.Private.{IsInOrder}
 
 -- what precedes an entry precedes what that one precedes
@@ -32,20 +32,44 @@ with_entry-cons entry x xs =
           ap (λ place. insert (x ∷ xs) place entry) more
     ]
 
+eqb-swap : (a b : ℕ) → (a == b) ≡ false → (b == a) ≡ false
+eqb-swap a b apart = grind (arith, nat_tests)
+
+-- one more entry of another number does not have this one
+holds-with_entry : (id : ℕ) (entry : Entry) (entries : List Entry) → (entry.id == id) ≡ false → holds id entries ≡ false → holds id (with_entry entry entries) ≡ false
+holds-with_entry id entry [] apart none = grind rules
+holds-with_entry id entry (x ∷ xs) apart none =
+    let here : (x.id == id) ≡ false = grind rules in
+    let rest : holds id xs ≡ false = grind rules in
+    let ih = holds-with_entry id entry xs apart rest in
+    rw (with_entry-cons entry x xs)
+    (elim (precedes entry x) as (λ b. holds id (cond b (entry ∷ x ∷ xs) (x ∷ with_entry entry xs)) ≡ false)
+    [ true ↦ rw (apart, here, rest) refl | false ↦ rw (here, ih) refl ])
+
+-- what is left of entries none of which has a number has it neither
+holds-filter : (id : ℕ) (keeps : Entry → Bool) (entries : List Entry) → holds id entries ≡ false → holds id (filter keeps entries) ≡ false
+holds-filter id keeps [] none = refl
+holds-filter id keeps (x ∷ xs) none =
+    let here : (x.id == id) ≡ false = grind rules in
+    let rest : holds id xs ≡ false = grind rules in
+    let ih = holds-filter id keeps xs rest in
+    elim (keeps x) as (λ b. holds id (cond b (x ∷ filter keeps xs) (filter keeps xs)) ≡ false) [ true ↦ rw (here, ih) refl | false ↦ ih ]
+
 -- one more entry, of a number that no other has, goes to its place
 pub IsInOrder-with_entry : (entry : Entry) (entries : List Entry) → holds entry.id entries ≡ false → IsInOrder entries → IsInOrder (with_entry entry entries)
-IsInOrder-with_entry entry [] unknown order = (All-nil (λ other. precedes entry other ≡ true), tt)
+IsInOrder-with_entry entry [] unknown order = (All-nil (λ other. precedes entry other ≡ true), refl, tt)
 IsInOrder-with_entry entry (x ∷ xs) unknown order =
     subst IsInOrder (sym (with_entry-cons entry x xs))
     ((elim (precedes entry x) as (λ b. precedes entry x ≡ b → IsInOrder (cond b (entry ∷ x ∷ xs) (x ∷ with_entry entry xs))) [
       | true ↦ λ before.
           let later = All-weaker (λ other. precedes x other ≡ true) (λ other. precedes entry other ≡ true) (λ other. through entry x other before) xs order.0 in
-          (All-cons (λ other. precedes entry other ≡ true) x xs before later, order)
+          (All-cons (λ other. precedes entry other ≡ true) x xs before later, unknown, order)
       | false ↦ λ not_before.
           let apart : (x.id == entry.id) ≡ false = grind rules in
           let rest : holds entry.id xs ≡ false = grind rules in (
             All-with_entry (λ other. precedes x other ≡ true) entry xs (other_way entry x not_before apart) order.0,
-            IsInOrder-with_entry entry xs rest order.1,
+            holds-with_entry x.id entry xs (eqb-swap x.id entry.id apart) order.1,
+            IsInOrder-with_entry entry xs rest order.2,
           )
     ]) refl)
 
@@ -54,8 +78,8 @@ pub IsInOrder-filter : (keeps : Entry → Bool) (entries : List Entry) → IsInO
 IsInOrder-filter keeps [] order = tt
 IsInOrder-filter keeps (x ∷ xs) order =
     elim (keeps x) as (λ b. IsInOrder (cond b (x ∷ filter keeps xs) (filter keeps xs))) [
-      | true ↦ (All-filter keeps (λ other. precedes x other ≡ true) xs order.0, IsInOrder-filter keeps xs order.1)
-      | false ↦ IsInOrder-filter keeps xs order.1
+      | true ↦ (All-filter keeps (λ other. precedes x other ≡ true) xs order.0, holds-filter x.id keeps xs order.1, IsInOrder-filter keeps xs order.2)
+      | false ↦ IsInOrder-filter keeps xs order.2
     ]
 
 -- the first place that passes, or the end

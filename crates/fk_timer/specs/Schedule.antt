@@ -1,5 +1,5 @@
 -- What waits for its moment, and in which order it falls due.
-use Rattle.std.specs.Prelude.{◌≡◌, ℕ, ◌≤◌, ◌==◌, ◌&&◌, ◌||◌, nat_lt, not, Bool, true, List, ◌∷◌, filter, insert, All}
+use Rattle.std.specs.Prelude.{◌≡◌, ℕ, ◌≤◌, ◌==◌, ◌&&◌, ◌||◌, nat_lt, not, Bool, true, false, List, ◌∷◌, filter, insert, All}
 use Rattle.std.specs.List.{list_any, position_or_len}
 use Rattle.fk_timer.specs.declared.timer.Entry.{Entry}
 
@@ -26,10 +26,11 @@ with_entry entry entries = insert entries (position_or_len (λ other. precedes e
 abbrev pub without : ℕ → List Entry → List Entry
 without id entries = filter (λ entry. not (entry.id == id)) entries
 
--- an entry of this number was taken out that is due at the moment and precedes every other
+-- an entry of this number was taken out that is due at the moment and precedes every other, none of which has its number
 pub record IsTakenFirst (moment id : ℕ) (old new : List Entry) : Type 0 where
   pub entry : Entry
   pub number : entry.id ≡ id
   pub due : entry.moment ≤ moment
   pub taken : old ≡ entry ∷ new
   pub first : All (λ other. precedes entry other ≡ true) new
+  pub once : holds id new ≡ false

@@ -22,7 +22,7 @@ use Rattle.fk_log.specs.Shown.{shown_text}
 use Rattle.fk_turn.specs.declared.policy.Policy.{Policy}
 use Rattle.fk_turn.specs.Rules.{rules_by}
 use Rattle.fk_trial.specs.Lines.{IsTurnLine, ReadsTurns}
-use Rattle.fk_trial.specs.Trial.{IsTrial, HasTurns, EndsByInput}
+use Rattle.fk_trial.specs.Trial.{IsTrial, IsTrialOf, HasTurns, EndsByInput}
 use Rattle.fk_trial.proofs.Alike.{same-events}
 use Rattle.fk_trial.proofs.Numbers.{counted-trace}
 use Rattle.fk_trial.proofs.OneTurn.{one-turn}
@@ -116,9 +116,8 @@ same-ending a AtDiskFault by other faults = absurd other
 same-ending a AtWantOfMemory by other faults = absurd other
 same-ending a AtReadFault by other faults = absurd other
 
-pub one-log : (policy : Policy) (verbosity : Verbosity) (text : List ℕ) (left other : Option (List ℕ)) (a b : Run) → IsTrial policy a → IsTrial policy b
-    → HasTurns a.ending (Some text) left (turns_of a) → HasTurns b.ending (Some text) other (turns_of b) → EndsByInput a.ending → EndsByInput b.ending
+pub one-log : (policy : Policy) (verbosity : Verbosity) (text : List ℕ) (a b : Run) → IsTrialOf policy text a → IsTrialOf policy text b
     → log_text verbosity Opened Told a ≡ log_text verbosity Opened Told b
-one-log policy verbosity text left other a b ta tb has holds by ends =
-    let one = Reads-one IsTurnLine one-turn (reads a.ending text left (turns_of a) by has) (reads b.ending text other (turns_of b) ends holds) in
-    same-log policy a b ta tb one.0 verbosity (same-ending a.ending b.ending by ends one.1)
+one-log policy verbosity text a b ta tb =
+    let one = Reads-one IsTurnLine one-turn (reads a.ending text ta.left (turns_of a) ta.decided ta.reading) (reads b.ending text tb.left (turns_of b) tb.decided tb.reading) in
+    same-log policy a b ta.trial tb.trial one.0 verbosity (same-ending a.ending b.ending ta.decided tb.decided one.1)

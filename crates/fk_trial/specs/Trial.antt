@@ -11,6 +11,7 @@ use Rattle.fk_run.specs.Legal.{Legal, LegalTurns}
 use Rattle.fk_host.specs.Stream.{Takes}
 use Rattle.fk_input.specs.declared.fault.LineFault.TheVariants.{BadLine, TooLong}
 use Rattle.fk_input.specs.Lines.{pieces, is_fed}
+use Rattle.fk_log.specs.declared.verbosity.Verbosity.{Verbosity}
 use Rattle.fk_log.specs.Log.{log_text}
 use Rattle.fk_log.specs.Log.Opening.{Opened}
 use Rattle.fk_log.specs.Log.RefusalLine.{Told}
@@ -52,6 +53,17 @@ EndsByInput (AtBadLine line) = Unit {0}
 EndsByInput (AtLongInput line) = Unit {0}
 EndsByInput _ = ⊥
 
+-- a trial of this text, of which the text alone decided the ending
+pub record IsTrialOf (policy : Policy) (text : List ℕ) (run : Run) : Type 0 where
+  pub trial : IsTrial policy run
+  pub left : Option (List ℕ)
+  pub reading : HasTurns run.ending (Some text) left (turns_of run)
+  pub decided : EndsByInput run.ending
+
+-- what a trial writes: it begins with `ready`, and tells the refusals of all its turns
+abbrev pub trial_text : Verbosity → Run → List ℕ
+trial_text verbosity run = log_text verbosity Opened Told run
+
 -- The status of a run that ended so; the Bool says whether a write of its log failed. A run that met a fault keeps that one's status.
 abbrev pub HasStatus : Ending → Bool → Status → Type 0
 HasStatus AtEnd false answer = answer ≡ status.Done
@@ -68,5 +80,5 @@ pub record Tries (task : TrialTask) (old new : Streams) (answer : Status) : Type
   pub trial : IsTrial task.policy run
   pub reading : HasTurns run.ending old.input.left new.input.left (turns_of run)
   pub is_broken : Bool
-  pub printed : Prints (log_text task.verbosity Opened Told run) is_broken old.output new.output
+  pub printed : Prints (trial_text task.verbosity run) is_broken old.output new.output
   pub answered : HasStatus run.ending is_broken answer

@@ -84,8 +84,9 @@ fn ends(
     let moment = Moment::new(1_700_000_000).ok_or("too late")?;
     let words = words_of(alloc, script.words)?;
     let mut files = files_of(alloc)?;
-    assert!(rt; script.bytes <= drawn().len());
-    let mut entropy = MemEntropy::new(alloc, &drawn()[..script.bytes])?;
+    let all = drawn();
+    assert!(rt; script.bytes <= all.len());
+    let mut entropy = MemEntropy::new(alloc, &all[..script.bytes])?;
     let mut link = MemLink::new();
     let mut out = MemSink::new(alloc, script.room);
     let status = fwknop_run(

@@ -1,9 +1,9 @@
-use Rattle.std.proofs.Common.{arith, ap, sym, ◌≡◌, ◌≤◌, ◌∙◌, not, length, false, List}
+use Rattle.std.proofs.Common.{arith, ap, sym, ◌≡◌, ◌∙◌, not, length, false, List}
 use Rattle.std.specs.Prelude.{insert}
 use Rattle.std.specs.List.{position_or_len}
 use Rattle.std.proofs.lemmas.List.Sums.{prefix_len-le-length}
 use Rattle.fk_timer.specs.declared.timer.Entry.{Entry}
-use Rattle.fk_timer.specs.Schedule.{Schedule, precedes, holds, with_entry}
+use Rattle.fk_timer.specs.Schedule.{Schedule, precedes, holds}
 use Rattle.fk_timer.proofs.Orders.{IsInOrder-with_entry}
 use Rattle.fk_timer.proofs.timer.Timer.put.Goals as goal
 
