@@ -1,5 +1,5 @@
 -- Which counts of faults rose, by the answer of a client.
-use Rattle.std.proofs.Common.{◌≡◌, ◌≢◌, ◌⊎◌, ℕ, Bool, true, false, List, Option, refl, sym, ap, subst, inl, inr}
+use Rattle.std.proofs.Common.{◌≡◌, ◌≢◌, ℕ, Bool, true, false, List, refl, sym, ap, subst, inl, inr}
 use Rattle.fk_base.specs.declared.status.Status.{Status}
 use Rattle.fk_base.specs.declared.status.Status.TheVariants as status
 use Rattle.fk_conf.specs.declared.command.Command.{Command}
@@ -7,7 +7,6 @@ use Rattle.fk_conf.specs.declared.command.Command.TheVariants as command
 use Rattle.fk_conf.specs.declared.command.SendWords.{SendWords}
 use Rattle.fk_conf.specs.declared.word_fault.WordFault.{WordFault}
 use Rattle.fk_conf.specs.declared.word_fault.WordFault.TheVariants as word
-use Rattle.fk_host.specs.Count.{counted}
 use Rattle.fk_log.specs.Causes.{FailsOnlyAs, FailsSink}
 use Rattle.fk_log.specs.Printing.{SinkView, Prints}
 use Rattle.fk_client.specs.declared.help.TheConstants.{HELP, VERSION}
@@ -17,8 +16,8 @@ use Rattle.fk_client.specs.Causes.{FailsByAnswer}
 use Rattle.fk_client.specs.ClientText.{keys_text, sent_text, shown_text}
 use Rattle.fk_client.specs.Faults.{Fault, Says, Shows, Tells, fault_of_words, fault_status, fault_text, printed_status}
 use Rattle.fk_client.specs.Faults.Fault.{WrongWords, FileNotHeld, FileNotRead, WrongFile, LacksSetting, EntropyFails, LinkFails, WantsMemory}
-use Rattle.fk_client.specs.Outside.{FilesView, EntropyView, LinkView, Outside, undrawn, unsent}
-use Rattle.fk_client.specs.Running.{Delivers, DrawsNothing, FailsToRead, FailsToSettle, MakesKeys, MeetsFault, OnlyPrints, RunsClient, RunsSend, Runs, SendsBy, SendsDrawn, SendsPacket}
+use Rattle.fk_client.specs.Outside.{FilesView, EntropyView, LinkView, Outside, undrawn}
+use Rattle.fk_client.specs.Running.{Delivers, FailsToSettle, MakesKeys, OnlyPrints, RunsClient, RunsSend, Runs, SendsBy, SendsPacket}
 use Rattle.fk_client.proofs.Saying.{said-once}
 
 -- the output's count after a fault was told

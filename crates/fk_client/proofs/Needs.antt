@@ -12,7 +12,6 @@ use Rattle.fk_conf.specs.ReadsRc.{IsRcStanzaOf, ReadsRc}
 use Rattle.fk_conf.specs.RcFault.{rc_stanzas}
 use Rattle.fk_conf.specs.declared.command.SendWords.{SendWords}
 use Rattle.fk_conf.specs.declared.rc_stanza.RcStanza.{RcStanza}
-use Rattle.fk_client.specs.declared.need_fault.NeedFault.{NeedFault}
 use Rattle.fk_client.specs.declared.need_fault.NeedFault.TheVariants.{NoStanza, NoServer, NoAccess, NoAllow, NoKey, NoHmacKey}
 use Rattle.fk_client.specs.Settle.{address_of, from_file, given_by, need_fault, pairs_of, server_of, stanza_named}
 use Rattle.fk_conf.specs.CommandOf.{SaysSame}

@@ -1,5 +1,4 @@
 -- What the answer of a client says of the counts of faults, and the other way round.
-use Rattle.std.specs.Prelude.{◌≡◌, ◌⊎◌, ℕ}
 use Rattle.fk_base.specs.declared.status.Status.{Status}
 use Rattle.fk_base.specs.declared.status.Status.TheVariants as status
 use Rattle.fk_log.specs.Causes.{FailsOnlyAs, FailsSink}

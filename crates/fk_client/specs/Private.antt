@@ -1,5 +1,5 @@
 -- What the contracts of this crate's private functions speak of. No public contract cites it, so no caller has to believe it.
-use Rattle.std.specs.Prelude.{◌≡◌, ℕ, List, Result, Ok, Err}
+use Rattle.std.specs.Prelude.{◌≡◌, ℕ, List}
 use Rattle.fk_client.specs.declared.refusal.Refusal.{Refusal}
 use Rattle.fk_client.specs.declared.refusal.Refusal.TheVariants as refusal
 use Rattle.fk_client.specs.Faults.{Fault}

@@ -1,5 +1,5 @@
 -- What a client does: what it reads, draws, sends and prints, and how it ends.
-use Rattle.std.specs.Prelude.{◌≡◌, ◌≢◌, ◌⊎◌, ℕ, ◌≤◌, Bool, true, false, List, [], length, Option, Some, None, IfSome}
+use Rattle.std.specs.Prelude.{◌≡◌, ◌≢◌, ◌⊎◌, ℕ, ◌≤◌, Bool, true, false, List, length, Some, None, IfSome}
 use Rattle.fk_base.specs.declared.status.Status.{Status}
 use Rattle.fk_host.specs.Files.{bytes_of_file}
 use Rattle.fk_host.specs.Link.{Sends}
@@ -23,7 +23,7 @@ use Rattle.fk_client.specs.declared.sent.Packet.{Packet}
 use Rattle.fk_client.specs.declared.settled.Settings.{Settings}
 use Rattle.fk_client.specs.ClientText.{keys_text, need_name, sent_text, shown_text}
 use Rattle.fk_client.specs.Faults.{Fault, Tells, Shows, fault_of_words}
-use Rattle.fk_client.specs.Faults.Fault.{WrongWords, FileNotHeld, FileNotRead, WrongFile, LacksSetting, EntropyFails, LinkFails, WantsMemory}
+use Rattle.fk_client.specs.Faults.Fault.{FileNotHeld, FileNotRead, WrongFile, LacksSetting, EntropyFails, LinkFails, WantsMemory}
 use Rattle.fk_client.specs.Outside.{FilesView, EntropyView, LinkView, Outside, refused, undrawn, unsent}
 use Rattle.fk_client.specs.Sent.{IsSent}
 use Rattle.fk_client.specs.Settle.{Settles, need_fault}

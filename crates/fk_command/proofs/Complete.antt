@@ -1,5 +1,5 @@
 -- A run in whose way nothing stands ends well, whatever its words ask for.
-use Rattle.std.proofs.Common.{◌≡◌, ℕ, Bool, List, IsSome, Ok, Err, subst, inl, inr}
+use Rattle.std.proofs.Common.{◌≡◌, ℕ, List, IsSome, subst, inl, inr}
 use Rattle.fk_base.specs.declared.status.Status.{Status}
 use Rattle.fk_conf.specs.declared.command.Command.{Command}
 use Rattle.fk_conf.specs.declared.command.Command.TheVariants as command

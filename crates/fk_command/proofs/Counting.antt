@@ -1,10 +1,9 @@
 -- Which counts of faults rose, by the answer of a run.
-use Rattle.std.proofs.Common.{◌≡◌, ◌≢◌, ◌⊎◌, ℕ, Bool, true, false, List, Option, refl, sym, ap, subst, inl, inr}
+use Rattle.std.proofs.Common.{◌≡◌, ◌≢◌, ℕ, Bool, true, false, List, Option, refl, sym, ap, subst, inl, inr}
 use Rattle.fk_base.specs.declared.status.Status.{Status}
 use Rattle.fk_base.specs.declared.status.Status.TheVariants as status
 use Rattle.fk_run.specs.Run.{Ending}
 use Rattle.fk_run.specs.Run.Ending.{AtLimit, AtEnd, AtFeedFault, AtDiskFault, AtWantOfMemory, AtBadLine, AtLongInput, AtReadFault}
-use Rattle.fk_host.specs.Count.{counted}
 use Rattle.fk_log.specs.declared.verbosity.Verbosity.{Verbosity}
 use Rattle.fk_log.specs.Causes.{FailsOnlyAs, FailsSink}
 use Rattle.fk_log.specs.Printing.{SinkView, Prints}
@@ -23,7 +22,7 @@ use Rattle.fk_command.specs.Listing.{printed_status}
 use Rattle.fk_command.specs.Causes.{FailsByAnswer}
 use Rattle.fk_command.specs.Private.{served_in}
 use Rattle.fk_command.specs.Running.{PrintsOnly, RefusesFiles, RefusesWords, fault_of_words}
-use Rattle.fk_command.proofs.Saying.{printed-once, said-once}
+use Rattle.fk_command.proofs.Saying.{said-once}
 
 -- an answer that is none of the four faults of an object
 pub record Blames (answer : Status) : Type 0 where

@@ -1,5 +1,5 @@
 -- A run in whose way nothing stands ends well.
-use Rattle.std.proofs.Common.{◌≡◌, ◌≢◌, ◌⊎◌, ℕ, ◌+◌, ◌<◌, ◌≤◌, min, max, Bool, true, false, List, Option, Some, None, IsSome, IsSomeAnd, IfSome, Result, Ok, Err, refl, sym, ap, subst, inl, inr, ◌∙◌, arith}
+use Rattle.std.proofs.Common.{◌≡◌, ◌≢◌, ℕ, Bool, true, false, List, Option, Some, None, IsSome, IsSomeAnd, IfSome, refl, sym, subst, inl, inr, arith}
 use Rattle.std.specs.Option.{option_map}
 use Rattle.fk_base.specs.declared.status.Status.{Status}
 use Rattle.fk_base.specs.declared.status.Status.TheVariants as status
@@ -18,13 +18,7 @@ use Rattle.fk_daemon.specs.declared.task.Task.{Task}
 use Rattle.fk_daemon.specs.Outside.{Outside}
 use Rattle.fk_daemon.proofs.Behind.{order}
 use Rattle.fk_daemon.specs.Serving.{HasStatus, Serves, SaysWhyUnopened}
-use Rattle.fk_conf.specs.declared.command.Command.{Command}
-use Rattle.fk_conf.specs.declared.command.Command.TheVariants as command
-use Rattle.fk_conf.specs.declared.tool.Tool.TheVariants.{Daemon}
-use Rattle.fk_conf.specs.declared.word_fault.WordFault.{WordFault}
-use Rattle.fk_conf.specs.declared.word_fault.WordFault.TheVariants as word
 use Rattle.fk_conf.specs.ConfErr.{conf_fault}
-use Rattle.fk_conf.specs.ReadsWords.{IsWordErr, ReadsWords}
 use Rattle.fk_access.specs.AccessFault.{access_fault}
 use Rattle.fk_command.specs.World.{FilesView, World}
 use Rattle.fk_command.specs.FaultNames.{conf_fault_name, access_fault_name}
@@ -32,9 +26,9 @@ use Rattle.fk_command.specs.Faults.{Fault, fault_status}
 use Rattle.fk_command.specs.Faults.Fault.{WrongWords, FileNotHeld, FileNotRead, WrongFile, DiskFails, DamagedLedger, WantsMemory}
 use Rattle.fk_command.specs.Files.{Names, FailsFile, FailsFiles}
 use Rattle.fk_command.specs.Listing.{Lists, FailsToView, printed_status}
-use Rattle.fk_command.specs.Running.{RefusesFiles, Runs, RunsWords, fault_of_words}
+use Rattle.fk_command.specs.Running.{RefusesFiles}
 use Rattle.fk_command.specs.Causes.{FailsByAnswer}
-use Rattle.fk_command.specs.Ready.{CountsNone, EndsWell, HoldsRight, HoldsSome, IsReadyFor, MeetsNoFault}
+use Rattle.fk_command.specs.Ready.{CountsNone, EndsWell, HoldsRight, HoldsSome}
 
 -- a count with a fault more rose
 rose-counted : (n : ℕ) → Rose n (counted n)

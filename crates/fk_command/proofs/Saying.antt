@@ -1,14 +1,13 @@
 -- What one line, or one text, leaves of the output.
-use Rattle.std.proofs.Common.{◌≡◌, ◌⊎◌, ℕ, Bool, true, false, List, [], ◌∷◌, ◌++◌, append-nil, Option, Some, None, Result, Ok, Err, refl, ap, subst, sym, inl, inr}
+use Rattle.std.proofs.Common.{◌≡◌, ◌⊎◌, ℕ, Bool, true, false, List, Option, Some, None, Result, Ok, Err, ap, inl, inr}
 use Rattle.std.specs.Result.{OnOk, OnErr}
 use Rattle.fk_base.specs.declared.memory.Failed.{Failed}
-use Rattle.fk_base.specs.declared.status.Status.{Status}
 use Rattle.fk_host.specs.Count.{counted, HasCause}
 use Rattle.fk_host.specs.Stream.{Gives}
 use Rattle.fk_log.specs.Line.{Line, line_text}
 use Rattle.fk_log.specs.Printing.{SinkView, Prints}
 use Rattle.fk_log.specs.Writing.{GivesPart}
-use Rattle.fk_command.specs.Faults.{Fault, Says, Tells, fault_line, fault_status}
+use Rattle.fk_command.specs.Faults.{Says}
 
 -- what was tried whole was printed
 pub printed : {T : Type 0} (text : List ℕ) (result : Result T Failed) (old new : SinkView) → OnOk result (Gives text old.written new.written)

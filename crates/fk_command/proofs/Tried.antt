@@ -1,5 +1,5 @@
 -- What a trial leaves, and that it ends well where nothing stands in its way.
-use Rattle.std.proofs.Common.{◌≡◌, ◌≢◌, ◌⊎◌, ℕ, ◌≤◌, ◌<◌, Bool, true, false, List, [], ◌∷◌, Option, Some, None, ⊎_elim, refl, sym, ap, subst, inl, inr, arith}
+use Rattle.std.proofs.Common.{◌≡◌, ◌≢◌, ◌⊎◌, ℕ, Bool, true, false, List, Option, Some, None, ⊎_elim, refl, sym, subst, inl, inr, arith}
 use Rattle.fk_base.specs.declared.status.Status.{Status}
 use Rattle.fk_base.specs.declared.status.Status.TheVariants as status
 use Rattle.fk_trace.specs.Decision.{FeedTurn}
@@ -9,7 +9,6 @@ use Rattle.fk_input.specs.declared.fault.Fault.{Fault}
 use Rattle.fk_input.specs.Lines.{Reads, end, line, bad, long}
 use Rattle.fk_log.specs.declared.verbosity.Verbosity.{Verbosity}
 use Rattle.fk_log.specs.Causes.{FailsOnlyAs, FailsSink}
-use Rattle.fk_log.specs.Printing.{SinkView}
 use Rattle.fk_conf.specs.declared.command.Command.TheVariants as command
 use Rattle.fk_conf.specs.declared.conf.Conf.{Conf}
 use Rattle.fk_access.specs.declared.stanza.Stanza.{Stanza}
@@ -17,7 +16,7 @@ use Rattle.fk_child.specs.View.{View}
 use Rattle.fk_daemon.specs.Outside.{FeedView}
 use Rattle.fk_trial.specs.declared.task.TrialTask.{TrialTask}
 use Rattle.fk_trial.specs.Lines.{IsTurnLine}
-use Rattle.fk_trial.specs.Streams.{SourceView, Streams}
+use Rattle.fk_trial.specs.Streams.{Streams}
 use Rattle.fk_trial.specs.Trial.{HasStatus, HasTurns, Tries}
 use Rattle.fk_command.specs.Causes.{FailsByAnswer}
 use Rattle.fk_command.specs.Files.{Names, ReadsFiles}

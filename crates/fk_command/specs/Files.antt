@@ -13,7 +13,7 @@ use Rattle.fk_access.specs.ReadsAccess.{ReadsAccess}
 use Rattle.fk_command.specs.World.{FilesView}
 use Rattle.fk_command.specs.FaultNames.{conf_fault_name, access_fault_name}
 use Rattle.fk_command.specs.Faults.{Fault}
-use Rattle.fk_command.specs.Faults.Fault.{WrongWords, FileNotHeld, FileNotRead, WrongFile, DiskFails, DamagedLedger, WantsMemory}
+use Rattle.fk_command.specs.Faults.Fault.{FileNotHeld, FileNotRead, WrongFile, WantsMemory}
 
 pub record Names : Type 0 where
   pub conf : List ℕ

@@ -6,14 +6,14 @@ use Rattle.fk_trace.specs.declared.change.Change.{Change}
 use Rattle.fk_trace.specs.Ledger.{live}
 use Rattle.fk_host.specs.Count.{counted}
 use Rattle.fk_host.specs.Disk.{IfTold, LeavesAreas}
-use Rattle.fk_log.specs.Line.{Line, text_of_lines}
+use Rattle.fk_log.specs.Line.{text_of_lines}
 use Rattle.fk_log.specs.Line.Line.{ListedLine}
 use Rattle.fk_child.specs.View.{View}
 use Rattle.fk_ledger.specs.Holds.{HoldsLedger, IsLedgerDamagedAt}
 use Rattle.fk_log.specs.Printing.{Prints}
 use Rattle.fk_command.specs.World.{World}
 use Rattle.fk_command.specs.Faults.{Fault, Tells}
-use Rattle.fk_command.specs.Faults.Fault.{WrongWords, FileNotHeld, FileNotRead, WrongFile, DiskFails, DamagedLedger, WantsMemory}
+use Rattle.fk_command.specs.Faults.Fault.{DiskFails, DamagedLedger, WantsMemory}
 
 -- a line for each live record, by rising number
 abbrev pub list_text : List Change → List ℕ

@@ -1,5 +1,5 @@
 -- When a run of the program has to end well, unless memory is wanting.
-use Rattle.std.specs.Prelude.{◌≡◌, ◌⊎◌, ℕ, List, Option, Some, None, IsSome, IsSomeAnd}
+use Rattle.std.specs.Prelude.{◌≡◌, ◌⊎◌, ℕ, List, Option, None, IsSome, IsSomeAnd}
 use Rattle.fk_base.specs.declared.status.Status.{Status}
 use Rattle.fk_base.specs.declared.status.Status.TheVariants as status
 use Rattle.fk_trace.specs.declared.change.Change.{Change}
@@ -17,7 +17,6 @@ use Rattle.fk_ledger.specs.Holds.{HoldsLedger}
 use Rattle.fk_input.specs.Lines.{pieces}
 use Rattle.fk_trial.specs.Lines.{ReadsTurns}
 use Rattle.fk_command.specs.World.{FilesView, World}
-use Rattle.fk_command.specs.Files.{Names}
 
 -- a file of this name is held, and its text has no fault by this test
 abbrev pub HoldsRight : {X : Type 0} → (List ℕ → Option X) → List ℕ → FilesView → Type 0

@@ -1,4 +1,4 @@
-use Rattle.std.proofs.Common.{ℕ, ◌+◌, ◌%◌, List, map, ap, ◌∙◌}
+use Rattle.std.proofs.Common.{ℕ, ◌+◌, ◌%◌, map, ap, ◌∙◌}
 use Rattle.fk_client.proofs.SentBy.{sent_by}
 use Rattle.fk_client.proofs.packing.packet.Goals as goal
 
