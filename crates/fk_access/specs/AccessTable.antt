@@ -6,7 +6,7 @@ use Rattle.fk_subst.specs.CommandFault.{is_template}
 use Rattle.fk_lines.specs.Lines.{Setting}
 use Rattle.fk_values.specs.Settings.{NameRule, named, reads_as}
 use Rattle.fk_values.specs.Values.{number_within, flag_in, hash_in, has_len_within, key_in, base64_key_in}
-use Rattle.fk_values.specs.declared.time.TheConstants.{LONGEST_TIME}
+use Rattle.fk_base.specs.declared.moment.TheConstants.{LONGEST_TIME}
 use Rattle.fk_access.specs.AccessValues.{are_sources, pairs_in, is_closing}
 use Rattle.fk_access.specs.declared.access_name.AccessName.{AccessName}
 use Rattle.fk_access.specs.declared.access_name.AccessName.TheVariants.{Source, OpenPorts, RestrictPorts, Key, KeyBase64, HmacKey, HmacKeyBase64, HmacDigestType, RequireUsername, RequireSourceAddress, AccessExpireEpoch, CmdCycleOpen, CmdCycleClose, CmdCycleTimer, FwAccessTimeout}

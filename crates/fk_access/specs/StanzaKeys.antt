@@ -7,7 +7,7 @@ use Rattle.fk_subst.specs.CommandFault.{is_template}
 use Rattle.fk_values.specs.KeyOf.{key_by}
 use Rattle.fk_values.specs.Settings.{read_of}
 use Rattle.fk_values.specs.Values.{number_within}
-use Rattle.fk_values.specs.declared.time.TheConstants.{LONGEST_TIME}
+use Rattle.fk_base.specs.declared.moment.TheConstants.{LONGEST_TIME}
 use Rattle.fk_access.specs.declared.access_err.AccessWhat.{AccessWhat}
 use Rattle.fk_access.specs.declared.access_err.AccessWhat.TheVariants.{NoKey, NoHmacKey, NoOpen, NoClose, NoTimer}
 use Rattle.fk_access.specs.declared.access_name.AccessName.TheVariants.{Key, KeyBase64, HmacKey, HmacKeyBase64, CmdCycleOpen, CmdCycleClose, CmdCycleTimer}

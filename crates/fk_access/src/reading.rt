@@ -11,7 +11,8 @@ use crate::body::{is_source, read_body};
 use crate::sources::read_sources;
 use crate::stanza_of::stanza_of;
 use crate::{Access, AccessErr, AccessWhat, STANZAS_LIMIT, Stanza};
-use fk_lines::{FILE_LIMIT, Line, Lines};
+use fk_base::FILE_LIMIT;
+use fk_lines::{Line, Lines};
 use fk_values::SettingFault;
 use std::alloc::Global;
 

@@ -11,9 +11,10 @@ ghost use Rattle.fk_access.specs.StanzaKeys.{has_value, lacks_first};
 
 use crate::AccessWhat;
 use crate::access_name::AccessName;
+use fk_base::LONGEST_TIME;
 use fk_lines::Line;
 use fk_subst::is_template;
-use fk_values::{Given, LONGEST_TIME, is_base64_key, is_key, read_number};
+use fk_values::{Given, is_base64_key, is_key, read_number};
 
 /// What a stanza lacks first. It takes no memory.
 pub(crate) fn lacks_first(given: &Given<'_>) -> Option<AccessWhat>

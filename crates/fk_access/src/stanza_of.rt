@@ -18,12 +18,10 @@ use crate::access_name::AccessName;
 use crate::pair_list::read_pairs;
 use crate::stanza_lacks::lacks_first;
 use crate::{AccessErr, PairList, Sources, Stanza};
-use fk_base::{Bytes, GREATEST_MOMENT, HashKind, Keys, NoMemory};
+use fk_base::{Bytes, GREATEST_MOMENT, HashKind, Keys, LONGEST_TIME, NoMemory};
 use fk_lines::Line;
 use fk_subst::{CommandFault, Template, split};
-use fk_values::{
-    Given, KEY_LIMIT, LONGEST_TIME, read_flag, read_hash_name, read_number, take_key_of,
-};
+use fk_values::{Given, KEY_LIMIT, read_flag, read_hash_name, read_number, take_key_of};
 use std::alloc::Global;
 
 /// The stanza whose lines set what is given, or what it lacks first. What it lacks is told without memory.

@@ -23,7 +23,7 @@ CMD_CYCLE_TIMER      30
 ";
 
 fn read(alloc: Global, text: &[u8]) -> Result<Access, AccessErr> {
-    if text.len() > fk_lines::FILE_LIMIT {
+    if text.len() > fk_base::FILE_LIMIT {
         return Err(AccessErr::NoMemory);
     }
     read_access(alloc, text)

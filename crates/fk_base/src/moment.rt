@@ -5,6 +5,9 @@ use std::marker::Model;
 /// The last second that twelve decimal digits can write.
 pub const GREATEST_MOMENT: u64 = 999_999_999_999;
 
+/// The longest time for which a door opens, in seconds: a week.
+pub const LONGEST_TIME: u64 = 604_800;
+
 /// A time of day, in whole seconds since the start of 1970.
 #[derive(Clone, Copy, Debug, PartialEq, Eq)]
 pub struct Moment {

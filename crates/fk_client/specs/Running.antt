@@ -4,7 +4,7 @@ use Rattle.fk_base.specs.declared.status.Status.{Status}
 use Rattle.fk_host.specs.Files.{bytes_of_file}
 use Rattle.fk_host.specs.Link.{Sends}
 use Rattle.fk_host.specs.Stream.{Takes}
-use Rattle.fk_host.specs.declared.files.TheConstants.{FILE_LIMIT}
+use Rattle.fk_base.specs.declared.file.TheConstants.{FILE_LIMIT}
 use Rattle.fk_log.specs.Printing.{SinkView}
 use Rattle.fk_conf.specs.FaultNames.{conf_fault_name}
 use Rattle.fk_conf.specs.RcFault.{rc_fault}

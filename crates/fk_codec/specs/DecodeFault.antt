@@ -10,7 +10,7 @@ use Rattle.fk_base.specs.HashKind.{kind_by_len}
 use Rattle.fk_base.specs.Parts.{parts_at}
 use Rattle.fk_base.specs.declared.address.Ip4.{Ip4}
 use Rattle.fk_base.specs.declared.hash_kind.HashKind.TheVariants.{Sha256}
-use Rattle.fk_base.specs.declared.moment.TheConstants.{GREATEST_MOMENT}
+use Rattle.fk_base.specs.declared.moment.TheConstants.{GREATEST_MOMENT, LONGEST_TIME}
 use Rattle.fk_base.specs.declared.pair.Pair.{Pair}
 use Rattle.fk_text.specs.Found.{bytes_in}
 use Rattle.fk_fields.specs.declared.fields.Ask.{Ask}
@@ -36,7 +36,7 @@ asked_in part = option_and_then message_in (bytes_in part)
 
 -- the seconds of a timed request that a part writes
 unfoldable pub seconds_in : List ℕ → Option ℕ
-seconds_in part = option_and_then (passing is_timeout) (number_in 604800 part)
+seconds_in part = option_and_then (passing is_timeout) (number_in LONGEST_TIME part)
 
 -- how many parts there are in a plaintext of this type
 abbrev pub parts_needed : ℕ → ℕ

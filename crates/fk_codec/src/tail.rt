@@ -5,8 +5,8 @@ ghost use Rattle.fk_codec.specs.Private.{tail_ask, tail_parts, tail_tests, type_
 
 use crate::DecodeFault;
 use crate::head::RequestType;
-use fk_base::{Ip4, Pairs, Parts, find_number};
-use fk_fields::{Ask, LONGEST_TIMEOUT, read_message};
+use fk_base::{Ip4, LONGEST_TIME, Pairs, Parts, find_number};
+use fk_fields::{Ask, read_message};
 use fk_text::take_short;
 
 /// The parts behind the type. A timed request alone has seconds.
@@ -112,7 +112,7 @@ fn find_asked(part: &[u8]) -> Option<(Ip4, Pairs)>
 fn find_seconds(part: &[u8]) -> Option<u32>
     ensures { result ≡ seconds_in part.now }
 {
-    let seconds = find_number(part, LONGEST_TIMEOUT as u64)?;
+    let seconds = find_number(part, LONGEST_TIME)?;
     if seconds >= 1 {
         Some(seconds as u32)
     } else {

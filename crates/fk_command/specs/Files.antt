@@ -3,7 +3,7 @@ use Rattle.std.specs.Prelude.{◌≡◌, ◌≢◌, ◌⊎◌, ℕ, ◌≤◌, L
 use Rattle.std.specs.Option.{option_map}
 use Rattle.fk_host.specs.Count.{counted}
 use Rattle.fk_host.specs.Files.{bytes_of_file}
-use Rattle.fk_host.specs.declared.files.TheConstants.{FILE_LIMIT}
+use Rattle.fk_base.specs.declared.file.TheConstants.{FILE_LIMIT}
 use Rattle.fk_conf.specs.declared.conf.Conf.{Conf}
 use Rattle.fk_conf.specs.ConfErr.{conf_fault}
 use Rattle.fk_conf.specs.ReadsConf.{ReadsConf}

@@ -5,7 +5,7 @@ use Rattle.fk_base.specs.declared.pair.Pair.{Pair}
 use Rattle.fk_base.specs.Address.{ip_in}
 use Rattle.fk_values.specs.Settings.{reads_as}
 use Rattle.fk_values.specs.Values.{is_host, is_unbroken, number_within, pairs_within}
-use Rattle.fk_values.specs.declared.time.TheConstants.{LONGEST_TIME}
+use Rattle.fk_base.specs.declared.moment.TheConstants.{LONGEST_TIME}
 use Rattle.fk_conf.specs.Conf.{port_in}
 use Rattle.fk_conf.specs.declared.command_option.TheConstants.{GREATEST_LIMIT}
 use Rattle.fk_conf.specs.declared.tool.Tool.{Tool}

@@ -7,7 +7,7 @@ use Rattle.fk_lines.specs.Lines.{NumberedLine, Setting}
 use Rattle.fk_values.specs.KeyOf.{key_by}
 use Rattle.fk_values.specs.Settings.{read_of}
 use Rattle.fk_values.specs.Values.{hash_in, host_in, number_within, pairs_within}
-use Rattle.fk_values.specs.declared.time.TheConstants.{LONGEST_TIME}
+use Rattle.fk_base.specs.declared.moment.TheConstants.{LONGEST_TIME}
 use Rattle.fk_conf.specs.declared.rc_name.RcName.{RcName}
 use Rattle.fk_conf.specs.declared.rc_name.RcName.TheVariants.{SpaServer, SpaServerPort, Access, AllowIp, Key, KeyBase64, HmacKey, HmacKeyBase64, HmacDigestType, DigestType, FwTimeout, SpoofUser}
 use Rattle.fk_conf.specs.declared.rc_stanza.RcStanza.{RcStanza}

@@ -4,7 +4,7 @@ use Rattle.std.specs.Option.{option_and_then, option_or}
 use Rattle.fk_base.specs.Address.{ip_in}
 use Rattle.fk_base.specs.declared.address.Ip4.{Ip4}
 use Rattle.fk_values.specs.Values.{host_in, number_within}
-use Rattle.fk_values.specs.declared.time.TheConstants.{LONGEST_TIME}
+use Rattle.fk_base.specs.declared.moment.TheConstants.{LONGEST_TIME}
 use Rattle.fk_conf.specs.declared.command.Command.{Command}
 use Rattle.fk_conf.specs.declared.command.Command.TheVariants as command
 use Rattle.fk_conf.specs.declared.command.SendWords.{SendWords}

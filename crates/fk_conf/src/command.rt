@@ -1,7 +1,7 @@
 ghost use Rattle.std.specs.Prelude.{◌≡◌, ◌≤◌, true};
 ghost use Rattle.std.specs.Option.{ForSome};
 ghost use Rattle.fk_values.specs.Values.{is_host};
-ghost use Rattle.fk_values.specs.declared.time.TheConstants.{LONGEST_TIME};
+ghost use Rattle.fk_base.specs.declared.moment.TheConstants.{LONGEST_TIME};
 
 use fk_base::{Bytes, Ip4, Pairs};
 

@@ -3,8 +3,8 @@ ghost use Rattle.std.specs.Str.{bytes_eq, is_utf8};
 ghost use Rattle.fk_conf.specs.CommandOptions.{option_rule, options_of, pairs_unbroken};
 
 use crate::Tool;
-use fk_base::{Pairs, find_ip};
-use fk_values::{LONGEST_TIME, is_host, is_unbroken, read_number, read_pairs};
+use fk_base::{LONGEST_TIME, Pairs, find_ip};
+use fk_values::{is_host, is_unbroken, read_number, read_pairs};
 
 /// The most packets or turns that a command line can limit a run to.
 pub(crate) const GREATEST_LIMIT: u64 = 1_000_000_000;

@@ -11,7 +11,8 @@ ghost use Rattle.fk_conf.specs.ConfWhat.{conf_what};
 use crate::ConfErr;
 use crate::conf_err::conf_what;
 use crate::conf_name::ConfName;
-use fk_lines::{FILE_LIMIT, Line, Lines};
+use fk_base::FILE_LIMIT;
+use fk_lines::{Line, Lines};
 use fk_values::{Given, SettingFault};
 
 /// What the lines of a configuration set, or the first that is wrong.

@@ -2,7 +2,7 @@ ghost use Rattle.std.specs.Prelude.{◌≡◌, ◌≤◌, length, true};
 ghost use Rattle.std.specs.Option.{ForSome};
 ghost use Rattle.fk_fields.specs.FieldText.{is_user};
 ghost use Rattle.fk_values.specs.Values.{is_host};
-ghost use Rattle.fk_values.specs.declared.time.TheConstants.{LONGEST_TIME};
+ghost use Rattle.fk_base.specs.declared.moment.TheConstants.{LONGEST_TIME};
 
 use fk_base::{Bytes, HashKind, Ip4, Pairs};
 

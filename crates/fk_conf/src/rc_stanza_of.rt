@@ -9,12 +9,10 @@ ghost use Rattle.fk_conf.specs.ReadsRc.{IsRcGiven, key_of, spoofed_user};
 
 use crate::RcStanza;
 use crate::rc_name::{RcName, read_allow};
-use fk_base::{Bytes, HashKind, Ip4, NoMemory, Pairs};
+use fk_base::{Bytes, HashKind, Ip4, LONGEST_TIME, NoMemory, Pairs};
 use fk_fields::is_user;
 use fk_lines::Line;
-use fk_values::{
-    Given, KEY_LIMIT, LONGEST_TIME, is_host, read_hash_name, read_number, read_pairs, take_key_of,
-};
+use fk_values::{Given, KEY_LIMIT, is_host, read_hash_name, read_number, read_pairs, take_key_of};
 use std::alloc::Global;
 
 /// The stanza of this name whose lines set what is given.

@@ -110,7 +110,7 @@ fn the_first_wrong_line_is_told(rt: HostRuntime) -> Result<(), Fail> {
 }
 
 fn fault_of(alloc: Global, text: &[u8]) -> Option<ConfErr> {
-    if text.len() > fk_lines::FILE_LIMIT {
+    if text.len() > fk_base::FILE_LIMIT {
         return Some(ConfErr::NoMemory);
     }
     read_rc(alloc, text).err()

@@ -9,7 +9,8 @@ ghost use Rattle.fk_conf.specs.ConfErr.{IsConfErr};
 use crate::conf_name::ConfName;
 use crate::conf_settings::read_settings;
 use crate::{Conf, ConfErr};
-use fk_lines::{FILE_LIMIT, Line};
+use fk_base::FILE_LIMIT;
+use fk_lines::Line;
 use fk_values::read_number;
 
 /// Reads the daemon's configuration. It takes no memory.

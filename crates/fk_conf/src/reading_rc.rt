@@ -14,7 +14,8 @@ use crate::rc_body::{is_head, read_body};
 use crate::rc_name::RcName;
 use crate::rc_stanza_of::stanza_of;
 use crate::{ConfErr, ConfWhat, RC_STANZAS_LIMIT, RcFile, RcStanza};
-use fk_lines::{FILE_LIMIT, Line, Lines};
+use fk_base::FILE_LIMIT;
+use fk_lines::{Line, Lines};
 use fk_values::SettingFault;
 use std::alloc::Global;
 

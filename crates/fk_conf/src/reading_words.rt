@@ -16,8 +16,8 @@ use crate::option_set::OptionSet;
 use crate::word_places::{is_in, is_only, word_behind};
 use crate::word_walk::words_fault;
 use crate::{Command, SendWords, Tool, WordFault};
-use fk_base::{Bytes, Ip4, NoMemory, Pairs, Words, find_ip};
-use fk_values::{LONGEST_TIME, is_host, read_number};
+use fk_base::{Bytes, Ip4, LONGEST_TIME, NoMemory, Pairs, Words, find_ip};
+use fk_values::{is_host, read_number};
 use std::alloc::Global;
 
 /// Reads the words of a program's command line, without the program's name.

@@ -2,6 +2,7 @@
 use Rattle.std.specs.Prelude.{ℕ, Bool, ◌&&◌, ◌||◌, ◌==◌, nat_le, List, length}
 use Rattle.std.specs.List.{list_all}
 use Rattle.std.specs.Char.{is_ascii_digit}
+use Rattle.fk_base.specs.declared.moment.TheConstants.{LONGEST_TIME}
 
 -- 16 digits
 abbrev pub is_rand : List ℕ → Bool
@@ -25,4 +26,4 @@ is_version text = nat_le 1 (length text) && nat_le (length text) 16 && list_all 
 
 -- 1 second to a week
 abbrev pub is_timeout : ℕ → Bool
-is_timeout seconds = nat_le 1 seconds && nat_le seconds 604800
+is_timeout seconds = nat_le 1 seconds && nat_le seconds LONGEST_TIME

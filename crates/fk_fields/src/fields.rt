@@ -4,16 +4,13 @@ ghost use Rattle.fk_base.specs.Pairs.{IsPairs};
 ghost use Rattle.fk_fields.specs.FieldText.{is_printable, is_user, is_version, is_version_byte};
 
 use crate::Rand;
-use fk_base::{Bytes, GREATEST_MOMENT, HashKind, Ip4, Pairs};
-
-/// The most seconds of a timed request: a week.
-pub const LONGEST_TIMEOUT: u32 = 604_800;
+use fk_base::{Bytes, GREATEST_MOMENT, HashKind, Ip4, LONGEST_TIME, Pairs};
 
 /// What a packet asks for. The address 0.0.0.0 stands for the one that the packet comes from.
 #[derive(Drop)]
 pub enum Ask {
     Access { ip: Ip4, pairs: Pairs },
-    /// For this many seconds, 1 to 604800.
+    /// For this many seconds, 1 to `LONGEST_TIME`.
     Timed { ip: Ip4, pairs: Pairs, seconds: u32 },
 }
 
@@ -81,7 +78,7 @@ impl Ask {
     {
         match self {
             Ask::Access { .. } => true,
-            Ask::Timed { seconds, .. } => 1 <= *seconds && *seconds <= LONGEST_TIMEOUT,
+            Ask::Timed { seconds, .. } => 1 <= *seconds && u64::from(*seconds) <= LONGEST_TIME,
         }
     }
 

@@ -13,7 +13,7 @@ mod rand;
 #[cfg(test)]
 mod tests;
 
-pub use fields::{Ask, FieldFault, Fields, LONGEST_TIMEOUT, is_user, is_version};
+pub use fields::{Ask, FieldFault, Fields, is_user, is_version};
 pub use laws::messages_are_found;
 pub use message::{MessageFault, put_message, read_message};
 pub use rand::Rand;

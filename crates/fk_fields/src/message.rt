@@ -11,7 +11,7 @@ use fk_base::{
 };
 use std::alloc::Global;
 
-/// Why a text is no message, in the order in which it is tested.
+/// Why a text is no message: the first fault from its left.
 #[derive(Clone, Copy, Debug, PartialEq, Eq)]
 pub enum MessageFault {
     BadAddress,

@@ -1,6 +1,4 @@
-use crate::{
-    Ask, FieldFault, Fields, LONGEST_TIMEOUT, MessageFault, Rand, put_message, read_message,
-};
+use crate::{Ask, FieldFault, Fields, MessageFault, Rand, put_message, read_message};
 use fk_base::{Bytes, HashKind, Ip4, NoMemory, Pair, Pairs, Proto};
 use std::alloc::Global;
 use std::test::Fail;
@@ -71,7 +69,7 @@ fn the_first_wrong_field_is_found(rt: HostRuntime) -> Result<(), Fail> {
             b"bob".as_slice(),
             1_700_000_000,
             b"3.0.0".as_slice(),
-            LONGEST_TIMEOUT,
+            604_800,
             Ok(()),
         ),
         (

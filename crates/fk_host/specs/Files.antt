@@ -5,7 +5,7 @@ use Rattle.std.specs.Str.{bytes_eq}
 use Rattle.fk_host.specs.declared.files.FileErr.{FileErr}
 use Rattle.fk_host.specs.declared.files.FileErr.TheVariants.{Missing, Failed, NoMemory}
 use Rattle.fk_host.specs.declared.files.HeldFile.{HeldFile}
-use Rattle.fk_host.specs.declared.files.TheConstants.{FILE_LIMIT}
+use Rattle.fk_base.specs.declared.file.TheConstants.{FILE_LIMIT}
 
 -- the bytes of the file of this name, where it is held; of two of one name the first counts
 abbrev pub bytes_of_file : List ℕ → List HeldFile → Option (List ℕ)

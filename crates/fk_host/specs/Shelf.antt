@@ -5,7 +5,7 @@ use Rattle.std.specs.Str.{bytes_eq}
 use Rattle.fk_host.specs.declared.files.FileErr.{FileErr}
 use Rattle.fk_host.specs.declared.files.FileErr.TheVariants.{Missing, Failed}
 use Rattle.fk_host.specs.declared.files.HeldFile.{HeldFile}
-use Rattle.fk_host.specs.declared.files.TheConstants.{FILE_LIMIT}
+use Rattle.fk_base.specs.declared.file.TheConstants.{FILE_LIMIT}
 use Rattle.fk_host.specs.Files.{bytes_of_file}
 
 -- where files in memory stand

@@ -1,7 +1,7 @@
 ghost use Rattle.std.specs.Prelude.{◌≡◌, ◌≤◌, None, IfOk, vec_len};
 
-use crate::{FILE_LIMIT, FileErr, Files};
-use fk_base::Bytes;
+use crate::{FileErr, Files};
+use fk_base::{Bytes, FILE_LIMIT};
 use std::alloc::Global;
 use std::fs::File;
 use std::io::Read;

@@ -5,9 +5,6 @@ ghost use Rattle.fk_host.specs.Files.{bytes_of_file, is_fault, ReadsFile};
 
 use fk_base::{Bytes, NoMemory};
 
-/// The greatest length of a file that is read, in bytes.
-pub const FILE_LIMIT: usize = 1_048_576;
-
 /// Why a file is not read, in the order in which it is tested.
 #[derive(Clone, Copy, Debug, PartialEq, Eq)]
 pub enum FileErr {

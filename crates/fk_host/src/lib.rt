@@ -40,7 +40,7 @@ pub use directory_files::DirFiles;
 pub use disk::{Area, Disk};
 pub use entropy::Entropy;
 pub use feed::{DATAGRAM_ROOM, Feed, Input, Turn};
-pub use files::{FILE_LIMIT, FileErr, Files, HeldFile};
+pub use files::{FileErr, Files, HeldFile};
 pub use host::{ChildId, Host, StartErr};
 pub use laws::unscripted_children_end_well;
 pub use link::Link;

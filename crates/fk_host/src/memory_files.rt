@@ -6,8 +6,8 @@ ghost use Rattle.fk_host.specs.Count.{HasCauseBy};
 ghost use Rattle.fk_host.specs.Files.{bytes_of_file, is_fault, ReadsFile};
 ghost use Rattle.fk_host.specs.Shelf.{is_among, read_fault};
 
-use crate::{FILE_LIMIT, FileErr, Files, HeldFile};
-use fk_base::{Bytes, NoMemory};
+use crate::{FileErr, Files, HeldFile};
+use fk_base::{Bytes, FILE_LIMIT, NoMemory};
 use std::alloc::Global;
 use std::marker::Model;
 

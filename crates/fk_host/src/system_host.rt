@@ -20,7 +20,8 @@ const LOCKED: Area = Area::One;
 
 /// A host over the system. It tells nothing but which children run. Its disk keeps the areas in the files `fwknopd.head`,
 /// `fwknopd.one` and `fwknopd.two` of the current folder. A missing file reads as an empty area. The first call that writes or syncs
-/// locks the journal's file, so that a second daemon over the same folder meets a fault, and makes each file that it needs.
+/// locks the journal's file, so that a second daemon over the same folder meets a fault, and syncs the folder. A file that is missing
+/// is made by the first call that writes or syncs it.
 ///
 /// A child is a process, started without a shell and looked for by PATH. It has an empty standard input, nowhere for its standard
 /// output, and the daemon's standard error. It ends well where its exit status is 0, and a poll that sees it to end reaps it.
@@ -70,6 +71,8 @@ impl<R: Files<File = File> + Processes + Drop> SysHost<R> {
         if self.lock.is_none() {
             let file = make(&self.rt, LOCKED)?;
             file.try_lock()?;
+            // a run before this one may have made files and ended before it synced the folder
+            sync_folder(&self.rt)?;
             self.lock = Some(file);
         }
         Ok(())
@@ -205,11 +208,16 @@ fn make<R: Files<File = File>>(rt: &R, area: Area) -> io::Result<File> {
                 .write(true)
                 .create(true)
                 .open(rt, name_of(area))?;
-            File::options().read(true).open(rt, ".")?.sync_all()?;
+            sync_folder(rt)?;
             Ok(file)
         }
         opened => opened,
     }
+}
+
+/// Syncs the current folder, so that the files that stand in it stay.
+fn sync_folder<R: Files<File = File>>(rt: &R) -> io::Result<()> {
+    File::options().read(true).open(rt, ".")?.sync_all()
 }
 
 /// Fills the buffer from a place of the file on, as far as there are bytes.

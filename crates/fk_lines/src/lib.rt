@@ -15,5 +15,5 @@ mod tests;
 mod trim;
 
 pub use fault::LineFault;
-pub use lines::{FILE_LIMIT, Line, Lines};
+pub use lines::{Line, Lines};
 pub use trim::{is_blank, trim_front, without_last};

@@ -7,10 +7,8 @@ ghost use Rattle.fk_lines.specs.Cursor.{said, faulty};
 use crate::LineFault;
 use crate::cut::cut_line;
 use crate::line::{bare_line, is_skipped, read_line};
+use fk_base::FILE_LIMIT;
 use std::marker::Model;
-
-/// The most bytes of a file.
-pub const FILE_LIMIT: usize = 1_048_576;
 
 /// A line that sets something: its number, counted from 1, and its name and value, which are parts of the text.
 #[derive(Clone, Copy)]
@@ -31,7 +29,7 @@ impl<'a> Model for Lines<'a> {
     ghost use Rattle.std.specs.Prelude.{◌+◌, ◌≤◌, length};
     ghost use Rattle.fk_lines.specs.Lines.{lines_from, raw_lines};
     ghost use Rattle.fk_lines.specs.Cursor.{Cursor};
-    ghost use Rattle.fk_lines.specs.declared.lines.TheConstants.{FILE_LIMIT};
+    ghost use Rattle.fk_base.specs.declared.file.TheConstants.{FILE_LIMIT};
 
     ghost Value = { Cursor };
 

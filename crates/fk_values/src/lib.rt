@@ -18,7 +18,6 @@ mod pairs;
 mod setting_fault;
 #[cfg(test)]
 mod tests;
-mod time;
 
 pub use flag::read_flag;
 pub use given::{Given, MOST_SETTINGS};
@@ -30,4 +29,3 @@ pub use net::{find_net, nets_are_found};
 pub use number::read_number;
 pub use pairs::read_pairs;
 pub use setting_fault::SettingFault;
-pub use time::LONGEST_TIME;

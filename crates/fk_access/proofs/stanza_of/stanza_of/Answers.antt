@@ -4,7 +4,7 @@ use Rattle.fk_lines.specs.Lines.{Setting}
 use Rattle.fk_values.specs.Given.{given_at}
 use Rattle.fk_values.specs.Settings.{read_of}
 use Rattle.fk_values.specs.Values.{number_within}
-use Rattle.fk_values.specs.declared.time.TheConstants.{LONGEST_TIME}
+use Rattle.fk_base.specs.declared.moment.TheConstants.{LONGEST_TIME}
 use Rattle.fk_access.proofs.StanzaSteps.{complete_from_none}
 use Rattle.fk_access.proofs.stanza_of.stanza_of.Goals as goal
 

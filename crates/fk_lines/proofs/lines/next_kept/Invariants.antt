@@ -1,6 +1,6 @@
 use Rattle.std.proofs.Common.{◌≡◌, ◌+◌, ◌≤◌, length}
 use Rattle.fk_lines.specs.Lines.{lines_from, raw_lines}
-use Rattle.fk_lines.specs.declared.lines.TheConstants.{FILE_LIMIT}
+use Rattle.fk_base.specs.declared.file.TheConstants.{FILE_LIMIT}
 use Rattle.fk_lines.proofs.lines.next_kept.Given as goal
 
 -- only skipped lines were passed
