@@ -1,12 +1,12 @@
 -- One entry, and a list of entries, read from the bytes of an area.
-use Rattle.std.proofs.Common.{◌≡◌, ◌≢◌, ◌⊎◌, ℕ, suc, ◌+◌, ◌-◌, ◌<◌, ◌≤◌, ◌^◌, List, [], ◌∷◌, ◌++◌, length, take, drop, get_or, map, refl, inl, inr, ap, ◌∙◌, sym, subst, arith}
+use Rattle.std.proofs.Common.{◌≡◌, ◌≢◌, ◌⊎◌, ℕ, ◌+◌, ◌<◌, ◌≤◌, List, [], ◌∷◌, ◌++◌, length, take, drop, get_or, inl, inr, ap, ◌∙◌, sym, subst, arith}
 use Rattle.std.specs.Int.{w32, to_be_bytes, from_be_bytes}
 use Rattle.std.proofs.lemmas.Nat.{be_bytes_4, from_be_bytes-to_be_bytes_4}
-use Rattle.std.proofs.lemmas.List.{places, append_assoc, length-append, length-take, length-take-le, take_at, drop_at, take-append-drop, drop_more, drop-drop, length-drop, get_or-take, get_or_past}
+use Rattle.std.proofs.lemmas.List.{append_assoc, length-append, length-take, length-take-le, take_at, drop_at, take-append-drop, drop_more, drop-drop, length-drop, get_or-take, get_or_past}
 use Rattle.std.proofs.lemmas.Bool.{cases_lt}
 use Rattle.fk_journal.specs.declared.entry.Entry.{Entry}
-use Rattle.fk_journal.specs.Entries.{Content, IsContent, body, entry_bytes, entries_bytes, place_behind, content_of_entry, contents_of, ArePlacedFrom, BeginsWith, IsClosedBehind, HoldsEntries, IsBrokenGate, IsDamagedAt}
-use Rattle.fk_journal.proofs.Tails.{front, length-front, length_4, entries-push, all-push, place_behind-push}
+use Rattle.fk_journal.specs.Entries.{Content, IsContent, body, entry_bytes, entries_bytes, place_behind, content_of_entry, contents_of, ArePlacedFrom, BeginsWith, IsClosedBehind, IsDamagedAt}
+use Rattle.fk_journal.proofs.Tails.{front, length_4, entries-push, all-push, place_behind-push}
 
 -- the bytes begin with no entry
 abbrev pub NoContent : List ℕ → Type 0

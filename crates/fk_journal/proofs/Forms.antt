@@ -1,14 +1,14 @@
 -- The same where a host may tell or not, in the form in which the calls' proofs ask for it.
-use Rattle.std.proofs.Common.{◌≡◌, ℕ, ◌+◌, ◌<◌, ◌≤◌, List, [], ◌∷◌, ◌++◌, length, take, drop, refl, inl, inr, ap, ◌∙◌, sym, subst, arith, Option, Some, None, IfSome, Result, Ok, Err, OnOk, OnErr}
+use Rattle.std.proofs.Common.{◌≡◌, ℕ, ◌+◌, ◌≤◌, List, [], ◌∷◌, ◌++◌, length, take, drop, ap, sym, subst, arith, Option, Some, None, IfSome, Result, Ok, Err, OnOk, OnErr}
 use Rattle.std.specs.Option.{ForSome}
-use Rattle.std.proofs.lemmas.List.{length-append, length-take, length-drop}
+use Rattle.std.proofs.lemmas.List.{length-append, length-take}
 use Rattle.fk_host.specs.declared.disk.Area.TheVariants.{One}
-use Rattle.fk_host.specs.Disk.{Areas, Told, area_of, IfTold, KeepsPast, Passes, Same, Synced, InArea, Torn, Written}
+use Rattle.fk_host.specs.Disk.{Areas, Told, IfTold, Passes, Same, Synced, InArea, Torn, Written}
 use Rattle.fk_journal.specs.Entries.{Content, IsContent, body, entry_bytes, place_behind, IsClosedBehind}
 use Rattle.fk_journal.specs.Keeps.{selected, IsSettled, LeavesOthers, IsAppend}
 use Rattle.fk_journal.specs.Puts.{Puts, HasPut, IsHeld}
 use Rattle.fk_journal.proofs.Told.{if_told_map, if_told_then, if_told_with, if_told_both}
-use Rattle.fk_journal.proofs.Tails.{front, length-front, written_tail}
+use Rattle.fk_journal.proofs.Tails.{front}
 use Rattle.fk_journal.proofs.PutLemmas.{written_bound, torn_bound, puts_write, puts_sync, has_put, others_put, others_then, append_torn, append_both, append_done, append_bytes}
 
 pub on_ok_of : {T E : Type 0} (r : Result T E) (P : Type 0) → P → OnOk r P

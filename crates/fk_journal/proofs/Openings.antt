@@ -1,11 +1,11 @@
 -- The moments of an opening: a sync, reads, and where the area is short a write and its sync.
-use Rattle.std.proofs.Common.{◌≡◌, ◌⊎◌, ℕ, ◌+◌, ◌<◌, ◌≤◌, max, List, [], ◌∷◌, ◌++◌, length, take, drop, refl, inl, inr, ap, ◌∙◌, sym, subst, arith, Option, Some, None, IfSome, Result, Ok, Err, IfOk}
+use Rattle.std.proofs.Common.{◌≡◌, ℕ, ◌<◌, List, [], ◌∷◌, length, take, drop, refl, inl, inr, ap, ◌∙◌, sym, subst, arith, Option, Some, None, IfSome, Result, Ok, Err, IfOk}
 use Rattle.std.proofs.lemmas.Bool.{cases_lt}
 use Rattle.std.proofs.lemmas.List.{drop_all, take_all}
 use Rattle.fk_host.specs.declared.disk.Area.TheVariants.{One}
-use Rattle.fk_host.specs.Disk.{Areas, Told, area_of, IfTold, KeepsPast, LeavesAreas, Passes, Same, Synced, InArea, Torn, Written}
+use Rattle.fk_host.specs.Disk.{Areas, Told, IfTold, LeavesAreas, Passes, Same, Synced, Written}
 use Rattle.fk_journal.specs.Entries.{Content, area_bytes, IsClosedBehind}
-use Rattle.fk_journal.specs.Keeps.{selected, SameOthers, SameEntries, IsSettled, LeavesOthers, IsOpening}
+use Rattle.fk_journal.specs.Keeps.{selected, IsSettled, LeavesOthers, IsOpening}
 use Rattle.fk_journal.specs.Puts.{Puts, HasPut, IsHeld, HasRead}
 use Rattle.fk_journal.proofs.Told.{past_then, if_told_map, if_told_then, if_told_new, leaves_once, leaves_then}
 use Rattle.fk_journal.proofs.PutLemmas.{others_put, others_then}

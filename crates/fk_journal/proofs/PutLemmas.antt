@@ -1,14 +1,14 @@
 -- A write and its sync, and what two of them in a row are for the journal.
-use Rattle.std.proofs.Common.{◌≡◌, ◌⊎◌, ◌↔◌, ℕ, ◌+◌, ◌<◌, ◌≤◌, max, List, [], ◌∷◌, ◌++◌, length, take, drop, refl, inl, inr, ap, ◌∙◌, sym, subst, arith, Option, Some, None, IfSome}
+use Rattle.std.proofs.Common.{◌≡◌, ℕ, ◌+◌, ◌≤◌, max, List, [], ◌∷◌, ◌++◌, length, take, drop, refl, inl, inr, ap, ◌∙◌, sym, subst, arith}
 use Rattle.std.proofs.lemmas.Bool.{cases_lt}
 use Rattle.std.proofs.lemmas.List.{append_assoc, length-append, length-take, length-drop}
 use Rattle.fk_host.specs.declared.disk.Area.TheVariants.{One}
-use Rattle.fk_host.specs.Disk.{Areas, Told, area_of, IfTold, KeepsPast, Passes, Same, Synced, InArea, Torn, Written}
-use Rattle.fk_journal.specs.Entries.{Content, IsContent, body, entry_bytes, place_behind, IsClosedBehind, HoldsEntries}
-use Rattle.fk_journal.specs.Keeps.{selected, SameOthers, IsSettled, LeavesOthers, HasOldOrNew, IsAppend}
-use Rattle.fk_journal.specs.Puts.{Puts, HasPut, IsHeld}
+use Rattle.fk_host.specs.Disk.{Areas, Told, KeepsPast, Passes, Same, Synced, InArea, Torn, Written}
+use Rattle.fk_journal.specs.Entries.{Content, IsContent, body, entry_bytes, place_behind, IsClosedBehind}
+use Rattle.fk_journal.specs.Keeps.{selected, IsSettled, LeavesOthers, IsAppend}
+use Rattle.fk_journal.specs.Puts.{Puts, HasPut}
 use Rattle.fk_journal.proofs.Told.{past_then}
-use Rattle.fk_journal.proofs.Tails.{front, torn_tail, written_tail, old_or_new, written_gate, opened_gate, written_entry, place_behind-push}
+use Rattle.fk_journal.proofs.Tails.{front, torn_tail, written_tail, old_or_new, written_gate, opened_gate, written_entry}
 
 pub written_bound : (at : ℕ) (bytes old new : List ℕ) → Written at bytes old new → length new ≤ max (length old) (at + length bytes)
 written_bound at bytes old new written =

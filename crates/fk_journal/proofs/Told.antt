@@ -1,5 +1,5 @@
 -- Facts of what is told over several calls.
-use Rattle.std.proofs.Common.{◌≡◌, ◌↔◌, ℕ, ◌+◌, ◌<◌, ◌≤◌, ◌∙◌, arith, Option, Some, None, IfSome, IsSomeAnd, subst, sym, inl, inr}
+use Rattle.std.proofs.Common.{◌≡◌, ℕ, ◌≤◌, ◌∙◌, arith, Option, Some, None, IfSome, subst, sym, inl, inr}
 use Rattle.std.proofs.lemmas.Bool.{cases_lt}
 use Rattle.fk_host.specs.Disk.{Areas, Told, Above, IfTold, KeepsPast, LeavesAreas, LeavesHost, Passes, Same}
 

@@ -1,12 +1,12 @@
 -- An area is cut into entries in one way.
-use Rattle.std.proofs.Common.{◌≡◌, ◌≢◌, ◌⊎◌, ℕ, ◌+◌, ◌<◌, ◌≤◌, List, [], ◌∷◌, ◌++◌, length, take, drop, get_or, refl, inl, inr, ap, ◌∙◌, sym, subst, arith}
+use Rattle.std.proofs.Common.{◌≡◌, ◌⊎◌, ℕ, ◌<◌, List, [], ◌∷◌, ◌++◌, length, take, drop, get_or, refl, inl, inr, ap, ◌∙◌, sym, subst, arith}
 use Rattle.std.specs.List.{AllByRecursion}
 use Rattle.std.specs.Int.{w32, to_be_bytes, from_be_bytes}
 use Rattle.std.proofs.lemmas.Nat.{from_be_bytes-to_be_bytes_4}
 use Rattle.std.proofs.lemmas.List.{append_assoc, append_cancel_left, length-append, take_at, drop_at}
-use Rattle.fk_journal.specs.Entries.{Content, IsContent, body, entry_bytes, entries_bytes, place_behind, BeginsWith, IsClosedBehind, HoldsEntries, IsBrokenGate, IsDamagedAt}
+use Rattle.fk_journal.specs.Entries.{Content, IsContent, body, entry_bytes, entries_bytes, place_behind, IsClosedBehind, HoldsEntries, IsDamagedAt}
 use Rattle.fk_journal.specs.Keeps.{SameEntries}
-use Rattle.fk_journal.proofs.Tails.{front, length-front, length_4}
+use Rattle.fk_journal.proofs.Tails.{front, length_4}
 use Rattle.fk_journal.proofs.Contents.{NoContent}
 
 same_content : (c d : Content) → c.kind ≡ d.kind → c.payload ≡ d.payload → c ≡ d

@@ -23,6 +23,7 @@ const EMPTY: [u8; 2] = [1, 0];
 pub(crate) fn read_area<D: Disk>(alloc: Global, disk: &mut D) -> Result<Vec<u8>, JournalErr>
     ensures bytes { IfOk result (λ bytes. IfTold (D.told disk.old) (D.told disk.new) (λ before after. bytes.items ≡ selected before.areas)) }
     ensures areas { IfTold (D.told disk.old) (D.told disk.new) (LeavesAreas (D.may_leave disk.old) (D.may_leave disk.new)) }
+    ensures calls { IfTold (D.told disk.old) (D.told disk.new) (λ before after. after.moments ≤ before.moments + 2) }
     ensures undamaged { (place : ℕ) → IsErrOf result (JournalErr.Damaged place) → ⊥ }
     ensures host { LeavesHost D.told D.above disk.old disk.new }
     ensures cause { HasCauseBy is_disk_fault (D.faults disk.old) (D.faults disk.new) result }

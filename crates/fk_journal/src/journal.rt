@@ -69,7 +69,7 @@ impl Journal {
         Ok((journal, found.0))
     }
 
-    /// The entries of the area, which is neither written nor synced.
+    /// The entries of the area, by two calls of the disk: its length and its bytes. It is neither written nor synced.
     pub fn read<D: Disk>(alloc: Global, disk: &mut D) -> Result<Vec<Entry>, JournalErr>
         ensures held { IfOk result (λ entries. IfTold (D.told disk.old) (D.told disk.new) (λ before after.
             HoldsEntries (selected before.areas) (contents_of entries.items))) }
@@ -77,6 +77,7 @@ impl Journal {
         ensures damaged { (place : ℕ) → IsErrOf result (JournalErr.Damaged place) → IfTold (D.told disk.old) (D.told disk.new) (λ before after.
             IsDamagedAt (selected before.areas) place) }
         ensures areas { IfTold (D.told disk.old) (D.told disk.new) (LeavesAreas (D.may_leave disk.old) (D.may_leave disk.new)) }
+        ensures calls { IfTold (D.told disk.old) (D.told disk.new) (λ before after. after.moments ≤ before.moments + 2) }
         ensures host { LeavesHost D.told D.above disk.old disk.new }
         ensures cause { HasCauseBy is_disk_fault (D.faults disk.old) (D.faults disk.new) result }
     {

@@ -1,11 +1,9 @@
-use Rattle.std.proofs.Common.{◌≡◌, ℕ, ◌<◌, List, [], ◌∷◌, length, ap, ◌∙◌, sym, subst, arith, rules}
+use Rattle.std.proofs.Common.{◌≡◌, ℕ, ◌<◌, List, [], length, ap, ◌∙◌, sym, subst, arith, rules}
 use Rattle.std.proofs.lemmas.Result.{err_from_is_err_and}
 use Rattle.fk_host.specs.Count.{counted}
-use Rattle.fk_host.proofs.Counts.{HasCauseBy-after}
-use Rattle.fk_journal.specs.Keeps.{is_disk_fault, selected}
-use Rattle.fk_journal.specs.Entries.{HoldsEntries, IsDamagedAt, contents_of}
-use Rattle.fk_journal.proofs.Told.{leaves_host_then, if_told_map, if_told_then}
-use Rattle.fk_journal.proofs.Openings.{IsRead, made_moments, made_others, made_bytes, made_held, read_held}
+use Rattle.fk_journal.specs.Entries.{contents_of}
+use Rattle.fk_journal.proofs.Told.{leaves_host_then}
+use Rattle.fk_journal.proofs.Openings.{made_moments, made_others, made_held}
 use Rattle.fk_journal.specs.declared.entry.Entry.{Entry}
 use Rattle.fk_journal.specs.Puts.{IsHeld}
 use Rattle.fk_journal.proofs.area.open_area.Goals as goal

@@ -2,9 +2,8 @@ use Rattle.std.proofs.Common.{true}
 use Rattle.fk_host.proofs.Counts.{HasCauseBy-after}
 use Rattle.fk_journal.proofs.Told.{leaves_host_then}
 use Rattle.fk_journal.proofs.Forms.{on_ok_of}
-use Rattle.std.proofs.Common.{◌≡◌, ℕ, ◌+◌, ◌∷◌, [], ◌++◌, List, length}
+use Rattle.std.proofs.Common.{◌+◌, ◌∷◌, [], length}
 use Rattle.std.proofs.lemmas.Result.{err_from_is_err_and}
-use Rattle.fk_journal.specs.Entries.{body}
 use Rattle.fk_journal.proofs.Forms.{behind_fits, gate_fits, first_put, entry_torn, entry_moments, entry_held, entry_written, entry_calls, entry_others, put_others}
 use Rattle.fk_journal.proofs.area.put_entry.Goals as goal
 

@@ -1,8 +1,8 @@
 use Rattle.std.proofs.lemmas.Result.{err_from_is_err_and}
 use Rattle.fk_host.specs.Count.{counted}
 use Rattle.fk_journal.proofs.Told.{leaves_host_then}
-use Rattle.std.proofs.Common.{◌≡◌, ℕ, length, take, ap, ◌∙◌, arith, rules}
-use Rattle.fk_journal.proofs.Openings.{left_once, left_twice, all_read}
+use Rattle.std.proofs.Common.{ap, ◌∙◌}
+use Rattle.fk_journal.proofs.Openings.{left_once, left_twice}
 use Rattle.fk_journal.proofs.area.read_area.Goals as goal
 
 pub returns-in_err-len-clause-areas : goal.returns-in_err-len-clause-areas

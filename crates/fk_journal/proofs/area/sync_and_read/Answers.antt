@@ -2,7 +2,6 @@ use Rattle.std.proofs.lemmas.Result.{err_from_is_err_and}
 use Rattle.fk_host.proofs.Counts.{HasCauseBy-after}
 use Rattle.fk_journal.specs.Keeps.{is_disk_fault}
 use Rattle.fk_journal.proofs.Told.{leaves_host_then}
-use Rattle.std.proofs.Common.{◌≡◌, ℕ, List}
 use Rattle.fk_journal.proofs.Told.{if_told_map}
 use Rattle.fk_journal.specs.Keeps.{IsOpening, LeavesOthers}
 use Rattle.fk_journal.specs.Puts.{HasRead}

@@ -1,4 +1,4 @@
-use Rattle.std.proofs.Common.{◌≡◌, ℕ, ◌+◌, List, [], ◌∷◌, ◌++◌, length, drop, ap, ◌∙◌, sym, subst, arith, rules}
+use Rattle.std.proofs.Common.{◌≡◌, ℕ, ◌+◌, List, [], ◌∷◌, ◌++◌, length, drop, ap, ◌∙◌, sym, subst}
 use Rattle.std.proofs.lemmas.List.{map_push, take_rest}
 use Rattle.fk_journal.specs.declared.entry.Entry.{Entry}
 use Rattle.fk_journal.specs.Entries.{Content, content_of_entry, contents_of, ArePlacedFrom, BeginsWith, place_behind}

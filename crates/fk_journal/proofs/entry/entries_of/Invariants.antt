@@ -1,4 +1,4 @@
-use Rattle.std.proofs.Common.{◌≡◌, ℕ, ◌<◌, ◌-◌, length, drop}
+use Rattle.std.proofs.Common.{◌≡◌, ◌<◌, ◌-◌, length, drop}
 use Rattle.fk_journal.specs.Entries.{contents_of, ArePlacedFrom, BeginsWith, place_behind}
 use Rattle.fk_journal.proofs.entry.entries_of.Given as goal
 

@@ -1,4 +1,4 @@
-use Rattle.std.proofs.Common.{◌≡◌, ℕ, ◌+◌, ◌∷◌, [], ◌++◌, List, length, ap, ◌∙◌, sym, subst, arith, rules}
+use Rattle.std.proofs.Common.{ℕ, ◌∷◌, [], ◌++◌, ap, ◌∙◌, subst, arith}
 use Rattle.fk_journal.specs.Entries.{Content, entry_bytes}
 use Rattle.fk_journal.specs.Keeps.{Log, selected}
 use Rattle.fk_host.specs.Disk.{IfTold, Written}
