@@ -1,10 +1,10 @@
 -- What ties a machine to the trace: it keeps, for each record whose close is owed, what the trace says of that record.
-use Rattle.std.specs.Prelude.{◌≡◌, ◌≢◌, ℕ, Bool, true, false, not, ◌+◌, ◌==◌, ◌&&◌, ◌||◌, nat_lt, nat_le, List, [], ◌∷◌, length, map, Option, Some, None}
+use Rattle.std.specs.Prelude.{◌≡◌, ◌≢◌, ◌<◌, ℕ, Bool, true, false, not, ◌+◌, ◌==◌, ◌&&◌, ◌||◌, nat_lt, nat_le, List, [], ◌∷◌, length, map, Option, Some, None}
 use Rattle.std.specs.List.{find, filter, list_any, All, AllPairs, Contains}
 use Rattle.std.specs.Option.{option_map}
 use Rattle.fk_base.specs.declared.purpose.Purpose.{Purpose}
 use Rattle.fk_base.specs.declared.purpose.Purpose.TheVariants.{Open, Close}
-use Rattle.fk_trace.specs.Trace.{Event, Item, running, open_runs, close_tried, is_close_of}
+use Rattle.fk_trace.specs.Trace.{Event, Item, children, running, open_runs, close_tried, is_close_of}
 use Rattle.fk_trace.specs.Trace.Event.{Turn, Began, StartFailed, Ended, Runs, PollFailed}
 use Rattle.fk_trace.specs.Idle.{is_clean, is_idle, last_close}
 use Rattle.fk_trace.specs.Orderly.{IsOrderly}
@@ -62,6 +62,23 @@ pub record Stands (machine : List Kept) (past : List Item) (ends : List ℕ) (li
   -- while a clean close runs, the record's open doesn't
   pub parted : All (λ kept. kept.close ≡ Some true → kept.open_runs ≡ false) machine
 
+-- this holds at each place for which the machine stands
+abbrev pub Over : List Kept → (List Item → List ℕ → List Obligation → Type 0) → Type 0
+Over machine Holds = (past : List Item) (ends : List ℕ) (live : List Obligation) → Stands machine past ends live → Holds past ends live
+
+-- the machine stands for the trace with an item of this event behind it, whatever the item says of the host
+abbrev pub StandsBehind : List Kept → Event → List Item → List ℕ → List Obligation → Type 0
+StandsBehind machine event past ends live =
+    (moments faults : ℕ) → Stands machine (record { event = event; moments = moments; faults = faults } ∷ past) ends live
+
+-- each child that has begun has a lesser number
+abbrev pub AreBelow : ℕ → List Item → Type 0
+AreBelow number past = All (λ child. child.number < number) (children past)
+
+-- the child of this number and purpose runs
+abbrev pub RunsFor : List Item → ℕ → Purpose → Type 0
+RunsFor past number purpose = Contains (running past) (record { number = number; purpose = purpose })
+
 -- the obligations without that of one record
 abbrev pub without : ℕ → List Obligation → List Obligation
 without id live = filter (λ owed. not (owed.id == id)) live
@@ -69,6 +86,11 @@ without id live = filter (λ owed. not (owed.id == id)) live
 -- at the moment, a close of the record has to be attempted: it is idle, its close is due, and none was tried in this turn
 abbrev pub is_due : List Item → List ℕ → ℕ → Obligation → Bool
 is_due past ends moment owed = is_idle past ends moment owed.id && nat_le owed.due moment && not (close_tried past owed.id)
+
+-- with an item of this event behind the trace, of which no close of the record is due, each other one is due as before
+abbrev pub DueBut : ℕ → Event → List Item → List ℕ → Obligation → Type 0
+DueBut id event past ends owed = (moments faults moment : ℕ)
+    → is_due (record { event = event; moments = moments; faults = faults } ∷ past) ends moment owed ≡ (not (id == owed.id) && is_due past ends moment owed)
 
 -- the lesser due comes first, and of two records with one due the one with the lesser number
 abbrev pub precedes : Obligation → Obligation → Bool

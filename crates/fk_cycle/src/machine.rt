@@ -5,7 +5,7 @@ ghost use Rattle.fk_trace.specs.Trace.{Item, Child, children, running};
 ghost use Rattle.fk_trace.specs.Trace.Event.{Turn, Began, StartFailed, Ended};
 ghost use Rattle.fk_trace.specs.Orderly.{is_attempted};
 ghost use Rattle.fk_cycle.specs.Kept.{fresh, noted_turn, noted_begun, noted_not_begun, noted_ended, may_begin, has_running, is_kept};
-ghost use Rattle.fk_cycle.specs.Stands.{Obligation, Stands, IsNextDue};
+ghost use Rattle.fk_cycle.specs.Stands.{AreBelow, IsNextDue, Over, RunsFor, Stands, StandsBehind};
 ghost use Rattle.fk_cycle.specs.Private.{Waits, entry_of, is_ready_at, IsFirstWaiting};
 ghost use Rattle.fk_cycle.specs.Acts.{act_at, act_by, owed_after, kept_after};
 
@@ -70,10 +70,8 @@ impl Machine {
         requires unknown { is_kept id self.old.kept ≡ false }
         ensures kept { self.new.kept ≡ self.old.kept ++ fresh id due ∷ [] }
         ensures room { self.new.room + 1 ≡ self.old.room }
-        ensures stands { (past : List Item) (ends : List ℕ) (live : List Obligation)
-            → Stands self.old.kept past ends live
-            → is_attempted past id ≡ false
-            → Stands self.new.kept past ends (live ++ record { id = id; due = due } ∷ []) }
+        ensures stands { Over self.old.kept (λ past ends live. is_attempted past id ≡ false
+            → Stands self.new.kept past ends (live ++ record { id = id; due = due } ∷ [])) }
     {
         self.kept.push_reserved(Kept::new(id, due));
         self.dues.put(id, due);
@@ -83,10 +81,7 @@ impl Machine {
     pub fn turn(&mut self)
         ensures kept { self.new.kept ≡ map noted_turn self.old.kept }
         ensures room { self.new.room ≡ self.old.room }
-        ensures stands { (past : List Item) (ends : List ℕ) (live : List Obligation)
-            → Stands self.old.kept past ends live
-            → (number moments faults : ℕ)
-            → Stands self.new.kept (record { event = Turn number; moments = moments; faults = faults } ∷ past) ends live }
+        ensures stands { Over self.old.kept (λ past ends live. (number : ℕ) → StandsBehind self.new.kept (Turn number) past ends live) }
     {
         self.note_turn();
     }
@@ -96,12 +91,8 @@ impl Machine {
         requires { list_any (may_begin purpose) self.old.kept ≡ true }
         ensures kept { self.new.kept ≡ map (noted_begun purpose) self.old.kept }
         ensures room { self.new.room ≡ self.old.room }
-        ensures stands { (past : List Item) (ends : List ℕ) (live : List Obligation)
-            → Stands self.old.kept past ends live
-            → (number : ℕ)
-            → All (λ child. child.number < number) (children past)
-            → (words : List (List ℕ)) (moments faults : ℕ)
-            → Stands self.new.kept (record { event = Began number purpose words; moments = moments; faults = faults } ∷ past) ends live }
+        ensures stands { Over self.old.kept (λ past ends live. (number : ℕ) → AreBelow number past
+            → (words : List (List ℕ)) → StandsBehind self.new.kept (Began number purpose words) past ends live) }
     {
         self.note_begun(purpose);
     }
@@ -110,10 +101,8 @@ impl Machine {
     pub fn not_begun(&mut self, purpose: Purpose)
         ensures kept { self.new.kept ≡ map (noted_not_begun purpose) self.old.kept }
         ensures room { self.new.room ≡ self.old.room }
-        ensures stands { (past : List Item) (ends : List ℕ) (live : List Obligation)
-            → Stands self.old.kept past ends live
-            → (words : List (List ℕ)) (moments faults : ℕ)
-            → Stands self.new.kept (record { event = StartFailed purpose words; moments = moments; faults = faults } ∷ past) ends live }
+        ensures stands { Over self.old.kept (λ past ends live. (words : List (List ℕ))
+            → StandsBehind self.new.kept (StartFailed purpose words) past ends live) }
     {
         self.note_not_begun(purpose);
     }
@@ -124,13 +113,9 @@ impl Machine {
         ensures act { result ≡ act_by self.old.kept purpose good }
         ensures kept { self.new.kept ≡ kept_after result (map (noted_ended purpose good moment) self.old.kept) }
         ensures room { self.old.room ≤ self.new.room }
-        ensures stands { (past : List Item) (ends : List ℕ) (live : List Obligation)
-            → Stands self.old.kept past ends live
-            → (number : ℕ)
-            → Contains (running past) (record { number = number; purpose = purpose })
-            → (moments faults : ℕ)
-            → (result ≡ act_at past number purpose good)
-            × Stands self.new.kept (record { event = Ended number good; moments = moments; faults = faults } ∷ past) (moment ∷ ends) (owed_after result live) }
+        ensures tells { Over self.old.kept (λ past ends live. (number : ℕ) → RunsFor past number purpose → result ≡ act_at past number purpose good) }
+        ensures stands { Over self.old.kept (λ past ends live. (number : ℕ) → RunsFor past number purpose
+            → StandsBehind self.new.kept (Ended number good) past (moment ∷ ends) (owed_after result live)) }
     {
         let act = self.act(purpose, good);
         self.note_ended(purpose, good, moment);
@@ -142,9 +127,7 @@ impl Machine {
     pub fn due(&mut self, moment: Moment) -> Option<u64>
         ensures kept { self.new.kept ≡ self.old.kept }
         ensures room { self.new.room ≡ self.old.room }
-        ensures stands { (past : List Item) (ends : List ℕ) (live : List Obligation)
-            → Stands self.old.kept past ends live
-            → IsNextDue past ends moment live result }
+        ensures stands { Over self.old.kept (λ past ends live. IsNextDue past ends moment live result) }
     {
         first_ready(&mut self.dues, &self.kept, moment)
     }

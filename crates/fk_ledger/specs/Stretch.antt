@@ -1,8 +1,9 @@
 -- What a crash at each moment of some calls may leave: a ledger with the first of their changes.
-use Rattle.std.specs.Prelude.{◌≡◌, ℕ, ◌<◌, ◌≤◌, Bool, true, List, [], take}
+use Rattle.std.specs.Prelude.{◌≡◌, ℕ, ◌<◌, ◌≤◌, Bool, true, false, List, [], take}
 use Rattle.fk_trace.specs.declared.change.Change.{Change}
 use Rattle.fk_trace.specs.Ledger.{after}
-use Rattle.fk_host.specs.Disk.{Areas, Told, KeepsPast}
+use Rattle.fk_host.specs.declared.disk.Disk.{Ghosts as DiskMeaning}
+use Rattle.fk_host.specs.Disk.{Areas, Told, IfTold, KeepsPast}
 use Rattle.fk_ledger.specs.Holds.{HoldsState}
 
 -- A stretch over a ledger with these changes, from one state of the host to a later one. What a crash at an earlier moment may
@@ -14,6 +15,16 @@ pub record Stretch (ledger changes : List Change) (whole : Bool) (old new : ℕ 
   pub each : (k : ℕ) (image : Areas) → start.moments < k → k ≤ finish.moments → new k image
       → (n : ℕ) × HoldsState (after ledger (take n changes)) image
   pub all : whole ≡ true → (image : Areas) → new finish.moments image → HoldsState (after ledger changes) image
+
+-- the calls from one state of a disk to a later one are such a stretch, where the disk tells
+abbrev pub StretchOf : {D : Type 0} → DiskMeaning D → D → D → List Change → List Change → Bool → Type 0
+StretchOf disk old new ledger changes whole =
+    IfTold (disk.told old) (disk.told new) (Stretch ledger changes whole (disk.may_leave old) (disk.may_leave new))
+
+-- what stood up to this moment of the calls is a stretch
+abbrev pub StretchUntil : {D : Type 0} → DiskMeaning D → ℕ → D → D → List Change → List Change → Type 0
+StretchUntil disk k old new ledger changes = IfTold (disk.told old) (disk.told new) (λ before later. before.moments ≤ k → k ≤ later.moments
+    → Stretch ledger changes false (disk.may_leave old) (disk.may_leave new) before (record later { moments = k }))
 
 -- The moments of the opening of a ledger. Up to the one before the area's sync has ended well (the last of them all, where it
 -- never does), each image is one that stood at entry; from then on the calls are a stretch without changes.

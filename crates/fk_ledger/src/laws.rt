@@ -4,7 +4,7 @@ ghost use Rattle.fk_host.specs.Disk.{Areas, IfTold, LeavesAreas};
 ghost use Rattle.fk_trace.specs.declared.change.Change.{Change};
 ghost use Rattle.fk_trace.specs.Ledger.{after};
 ghost use Rattle.fk_ledger.specs.Holds.{HoldsLedger, IsLedgerDamagedAt, KeepsLedger};
-ghost use Rattle.fk_ledger.specs.Stretch.{Stretch};
+ghost use Rattle.fk_ledger.specs.Stretch.{StretchOf, StretchUntil};
 
 use fk_host::Disk;
 
@@ -19,7 +19,7 @@ pub fn no_area_holds_two_ledgers()
 pub fn calls_that_leave_the_areas_are_a_stretch<D: Disk>(old: &D, new: &D)
     ensures stretch { (ledger : List Change) → KeepsLedger ledger (D.told old.now) (D.may_leave old.now)
         → IfTold (D.told old.now) (D.told new.now) (LeavesAreas (D.may_leave old.now) (D.may_leave new.now))
-        → IfTold (D.told old.now) (D.told new.now) (Stretch ledger [] true (D.may_leave old.now) (D.may_leave new.now)) }
+        → StretchOf D.Disk old.now new.now ledger [] true }
     ensures keeps { (ledger : List Change) → KeepsLedger ledger (D.told old.now) (D.may_leave old.now)
         → IfTold (D.told old.now) (D.told new.now) (LeavesAreas (D.may_leave old.now) (D.may_leave new.now))
         → KeepsLedger ledger (D.told new.now) (D.may_leave new.now) }
@@ -27,16 +27,12 @@ pub fn calls_that_leave_the_areas_are_a_stretch<D: Disk>(old: &D, new: &D)
 
 /// Two stretches that adjoin, of which the first is whole, are one with the changes of both.
 pub fn adjoining_stretches_are_one<D: Disk>(first: &D, second: &D, third: &D)
-    ensures { (ledger a b : List Change) (whole : Bool)
-        → IfTold (D.told first.now) (D.told second.now) (Stretch ledger a true (D.may_leave first.now) (D.may_leave second.now))
-        → IfTold (D.told second.now) (D.told third.now) (Stretch (after ledger a) b whole (D.may_leave second.now) (D.may_leave third.now))
-        → IfTold (D.told first.now) (D.told third.now) (Stretch ledger (a ++ b) whole (D.may_leave first.now) (D.may_leave third.now)) }
+    ensures { (ledger a b : List Change) (whole : Bool) → StretchOf D.Disk first.now second.now ledger a true
+        → StretchOf D.Disk second.now third.now (after ledger a) b whole → StretchOf D.Disk first.now third.now ledger (a ++ b) whole }
 {}
 
 /// What stood up to any moment of a stretch is a stretch.
 pub fn a_stretch_may_be_cut<D: Disk>(old: &D, new: &D)
-    ensures { (ledger changes : List Change) (whole : Bool) (k : ℕ)
-        → IfTold (D.told old.now) (D.told new.now) (Stretch ledger changes whole (D.may_leave old.now) (D.may_leave new.now))
-        → IfTold (D.told old.now) (D.told new.now) (λ before later. before.moments ≤ k → k ≤ later.moments
-        → Stretch ledger changes false (D.may_leave old.now) (D.may_leave new.now) before (record later { moments = k })) }
+    ensures { (ledger changes : List Change) (whole : Bool) (k : ℕ) → StretchOf D.Disk old.now new.now ledger changes whole
+        → StretchUntil D.Disk k old.now new.now ledger changes }
 {}

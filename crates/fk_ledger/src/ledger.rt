@@ -13,7 +13,7 @@ ghost use Rattle.fk_journal.specs.Keeps.{selected, IsOpening, LeavesOthers, is_d
 ghost use Rattle.fk_ledger.specs.Book.{has_room, live_ids, is_disk_record_fault};
 ghost use Rattle.fk_ledger.specs.Holds.{HoldsLedger, IsLedgerDamagedAt, KeepsLedger};
 ghost use Rattle.fk_ledger.specs.Payloads.{record_bytes};
-ghost use Rattle.fk_ledger.specs.Stretch.{Stretch, IsLedgerOpening};
+ghost use Rattle.fk_ledger.specs.Stretch.{StretchOf, IsLedgerOpening};
 
 use crate::changes::{changes_of, is_seen, live_ids, live_record, next_id, owed_of, spend_all};
 use crate::writing::{record_len, write_record};
@@ -171,8 +171,7 @@ impl Ledger {
         ensures spent { IsErrOf result RecordFault.Disk → self.new ≡ record self.old { is_spent = true } }
         ensures keeps { OnOk result (KeepsLedger self.new.changes (D.told disk.new) (D.may_leave disk.new)) }
         // A crash at any moment of the call leaves the ledger from before, with this record or without.
-        ensures moments { IfTold (D.told disk.old) (D.told disk.new)
-            (Stretch self.old.changes (Open item ∷ []) (is_ok result) (D.may_leave disk.old) (D.may_leave disk.new)) }
+        ensures moments { StretchOf D.Disk disk.old disk.new self.old.changes (Open item ∷ []) (is_ok result) }
         ensures others { IfTold (D.told disk.old) (D.told disk.new) (LeavesOthers (D.may_leave disk.old) (D.may_leave disk.new)) }
         ensures calls { OnOk result (IfTold (D.told disk.old) (D.told disk.new) (λ before after. after.moments ≡ before.moments + 4)) }
         ensures host { LeavesHost D.told D.above disk.old disk.new }
@@ -208,8 +207,7 @@ impl Ledger {
         ensures err { IfErr result (λ e. (e.0 ≡ owed) × (self.new ≡ record self.old { is_spent = true })) }
         ensures keeps { OnOk result (KeepsLedger self.new.changes (D.told disk.new) (D.may_leave disk.new)) }
         // A crash at any moment of the call leaves the ledger from before, with this Done or without.
-        ensures moments { IfTold (D.told disk.old) (D.told disk.new)
-            (Stretch self.old.changes (Done owed ∷ []) (is_ok result) (D.may_leave disk.old) (D.may_leave disk.new)) }
+        ensures moments { StretchOf D.Disk disk.old disk.new self.old.changes (Done owed ∷ []) (is_ok result) }
         ensures others { IfTold (D.told disk.old) (D.told disk.new) (LeavesOthers (D.may_leave disk.old) (D.may_leave disk.new)) }
         ensures calls { OnOk result (IfTold (D.told disk.old) (D.told disk.new) (λ before after. after.moments ≡ before.moments + 4)) }
         ensures host { LeavesHost D.told D.above disk.old disk.new }

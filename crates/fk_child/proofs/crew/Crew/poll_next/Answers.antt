@@ -54,8 +54,8 @@ keep_end-requires g c =
     let at0 = subst (λ (x : Child). StandsPolling (x ∷ may.rest) may.found (on crew c.args.host.now) may.place) (sym (c.child.view_is ∙ first.0)) at in
     let host = (on crew c.args.host.now).host in
     let ties = tied c.args.moment may.place child0 may.rest may.found crew host at0 in
-    let told = c.ended-act.ensures.stands may.place.past may.place.ends (obligations_but crew.unsettled may.place.ledger) ties.stands c.child.inside.number (among c.args.moment may.place child0 may.rest may.found crew host at0) 0 0 in
-    let fits = end-fits c.args.moment may.place child0 may.rest may.found crew host at0 c.in-Ok-Some.good c.ended-act.result told.0 in
+    let told = c.ended-act.ensures.tells may.place.past may.place.ends (obligations_but crew.unsettled may.place.ledger) ties.stands c.child.inside.number (among c.args.moment may.place child0 may.rest may.found crew host at0) in
+    let fits = end-fits c.args.moment may.place child0 may.rest may.found crew host at0 c.in-Ok-Some.good c.ended-act.result told in
     let room = c.self.invariant.settles in
     let counted = c.self.inside.owed.ok.0 in
     omega arith
@@ -91,9 +91,11 @@ returns-in-Ok-Some-clause-polls g c =
     let same : child0 ≡ child = c.child.view_is ∙ first.0 in
     let at0 = subst (λ (x : Child). StandsPolling (x ∷ rest) found (on crew c.args.host.now) place) (sym same) at in
     let ties = tied c.args.moment place child0 rest found crew host at0 in
-    let ends = c.ended-act.ensures.stands place.past place.ends (obligations_but crew.unsettled place.ledger) ties.stands c.child.inside.number (among c.args.moment place child0 rest found crew host at0) (moment_of new.told) new.faults in
+    let runs = among c.args.moment place child0 rest found crew host at0 in
+    let act = c.ended-act.ensures.tells place.past place.ends (obligations_but crew.unsettled place.ledger) ties.stands c.child.inside.number runs in
+    let stands = c.ended-act.ensures.stands place.past place.ends (obligations_but crew.unsettled place.ledger) ties.stands c.child.inside.number runs (moment_of new.told) new.faults in
     subst (λ (x : Child). PollsOne c.args.moment x rest place (on crew c.args.host.now) (on crew' c.poll.new.self)) same
-    (polls-ended c.args.moment place child0 rest found crew host at0 c.in-Ok-Some.good c.ended-act.result ends.0 crew' new told.call told.disk told.above ends.1 refl c.keep_end.ensures.items first.1
+    (polls-ended c.args.moment place child0 rest found crew host at0 c.in-Ok-Some.good c.ended-act.result act crew' new told.call told.disk told.above stands refl c.keep_end.ensures.items first.1
     (told_last c.push_reserved.new.self.items c.self.inside.ends.items c.child.inside.purpose c.of.result _ c.push_reserved.ensures.items c.of.ensures)))
 
 pub returns-in-Err-clause-polls : goal.returns-in-Err-clause-polls
