@@ -1,5 +1,5 @@
 -- The lines of an input, as its bytes say.
-use Rattle.std.specs.Prelude.{◌≡◌, ◌⊎◌, ℕ, ◌+◌, ◌<◌, ◌≤◌, ◌==◌, ◌||◌, nat_lt, min, Bool, true, false, if◌then◌else◌, List, [], ◌∷◌, length, Option, Some, None}
+use Rattle.std.specs.Prelude.{◌≡◌, ◌⊎◌, ℕ, ◌+◌, ◌<◌, ◌≤◌, ◌==◌, ◌||◌, nat_lt, min, Bool, IsTrue, true, false, if◌then◌else◌, List, [], ◌∷◌, length, Option, Some, None}
 use Rattle.std.specs.List.{onto_first}
 use Rattle.fk_input.specs.declared.fault.Fault.{Fault}
 use Rattle.fk_input.specs.declared.fault.LineFault.TheVariants.{BadLine, TooLong}
@@ -53,3 +53,11 @@ pub data Reads {T : Type 0} (IsLine : List ℕ → T → Type 0) : ℕ → ℕ �
   long : {offset number : ℕ} {piece : List ℕ} {pieces : List (List ℕ)}
       → passes_limit offset piece ≡ true
       → Reads IsLine offset number (piece ∷ pieces) [] (Some (record { line = number; what = TooLong }))
+
+-- each line has one value at most
+abbrev pub HaveOneValue : {T : Type 0} → (List ℕ → T → Bool) → Type 0
+HaveOneValue {T} is_line = (line : List ℕ) (a b : T) → IsTrue (is_line line a) → IsTrue (is_line line b) → a ≡ b
+
+-- what a whole input says
+abbrev pub ReadsText : {T : Type 0} → (List ℕ → T → Bool) → List ℕ → List T → Option Fault → Type 0
+ReadsText is_line text values fault = Reads (λ line value. IsTrue (is_line line value)) 0 1 (pieces text) values fault

@@ -1,5 +1,5 @@
 -- A reader of lines, and what a call of it takes from its input.
-use Rattle.std.specs.Prelude.{◌≡◌, ◌≢◌, ◌⊎◌, ℕ, ◌+◌, ◌<◌, ◌≤◌, Bool, true, false, List, [], ◌∷◌, ◌++◌, length, Option, Some, None, IfSome}
+use Rattle.std.specs.Prelude.{◌≡◌, ◌⊎◌, ℕ, ◌+◌, ◌≤◌, Bool, true, false, List, [], ◌++◌, length, Option, Some, None, IfSome}
 use Rattle.fk_host.specs.Count.{counted}
 use Rattle.fk_host.specs.Stream.{Takes}
 use Rattle.fk_input.specs.declared.line_reader.NextLine.{NextLine}

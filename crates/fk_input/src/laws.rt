@@ -1,15 +1,12 @@
-ghost use Rattle.std.specs.Prelude.{◌≡◌, ℕ, Bool, List, Option, Some, IsTrue};
+ghost use Rattle.std.specs.Prelude.{◌≡◌, ℕ, Bool, List, Option, Some};
 ghost use Rattle.fk_input.specs.declared.fault.Fault.{Fault};
-ghost use Rattle.fk_input.specs.Lines.{pieces, Reads};
+ghost use Rattle.fk_input.specs.Lines.{HaveOneValue, pieces, Reads, ReadsText};
 
 /// Where a line has one value at most, an input has one reading at most.
 pub fn reading_is_unique<T>()
-    ensures { (is_line : List ℕ → T → Bool)
-        → ((line : List ℕ) (a b : T) → IsTrue (is_line line a) → IsTrue (is_line line b) → a ≡ b)
+    ensures { (is_line : List ℕ → T → Bool) → HaveOneValue is_line
         → (text : List ℕ) (values others : List T) (fault other : Option Fault)
-        → Reads (λ line value. IsTrue (is_line line value)) 0 1 (pieces text) values fault
-        → Reads (λ line value. IsTrue (is_line line value)) 0 1 (pieces text) others other
-        → (values ≡ others) × (fault ≡ other) }
+        → ReadsText is_line text values fault → ReadsText is_line text others other → (values ≡ others) × (fault ≡ other) }
 {}
 
 /// Whatever its lines mean, an input has a reading.

@@ -72,6 +72,15 @@ pub record AddsSetting (rules : List NameRule) (old new : List (Option Setting))
   pub faultless : setting_fault rules (given_at old) setting ≡ None
   pub added : (number : ℕ) → given_at new number ≡ with_setting rules (given_at old) setting number
 
+-- the fault of a setting was told, and nothing was put beside what was given
+abbrev pub RefusesSetting : List NameRule → List (Option Setting) → List (Option Setting) → Setting → SettingFault → Type 0
+RefusesSetting rules old new setting fault = (setting_fault rules (given_at old) setting ≡ Some fault) × (new ≡ old)
+
+-- this holds where the setting has a rule, by which it sets what has this number and its value is right or not
+abbrev pub WhereRuled : List NameRule → Setting → ℕ → Bool → Type 0 → Type 0
+WhereRuled rules setting sets is_value Holds = (rule : NameRule) → rule_of rules setting.name ≡ Some rule
+    → rule.sets ≡ sets → rule.is_value setting.value ≡ is_value → Holds
+
 -- what one of the settings gives for a number, read in this way
 abbrev pub read_of : {X : Type 0} → (List ℕ → Option X) → Option Setting → Option X
 read_of read given = option_and_then (λ setting. read setting.value) given

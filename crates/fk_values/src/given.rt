@@ -3,7 +3,7 @@ ghost use Rattle.std.specs.List.{list_all};
 ghost use Rattle.std.specs.Option.{option_map};
 ghost use Rattle.fk_base.specs.Characters.{is_line_byte};
 ghost use Rattle.fk_values.specs.Given.{given_at, said_by};
-ghost use Rattle.fk_values.specs.Settings.{rule_of, setting_fault, AddsSetting, NameRule};
+ghost use Rattle.fk_values.specs.Settings.{AddsSetting, NameRule, RefusesSetting, WhereRuled};
 
 use crate::SettingFault;
 use fk_lines::Line;
@@ -54,10 +54,8 @@ impl<'a> Given<'a> {
     pub fn add(&mut self, line: Line<'a>, sets: usize, is_value: bool) -> Result<(), SettingFault>
         requires within { sets < MOST_SETTINGS }
         requires bytes { list_all is_line_byte line.value.now ≡ true }
-        ensures { (rules : List NameRule) (rule : NameRule) → rule_of rules line.entry.name.now ≡ Some rule
-            → rule.sets ≡ sets → rule.is_value line.entry.value.now ≡ is_value
-            → MatchResult result (λ _. AddsSetting rules self.old self.new (said_by line.entry))
-            (λ fault. (setting_fault rules (given_at self.old) (said_by line.entry) ≡ Some fault) × (self.new ≡ self.old)) }
+        ensures { (rules : List NameRule) → let setting = said_by line.entry in WhereRuled rules setting sets is_value
+            (MatchResult result (λ _. AddsSetting rules self.old self.new setting) (RefusesSetting rules self.old self.new setting)) }
     {
         if self.get(sets).is_some() {
             return Err(SettingFault::Twice);
