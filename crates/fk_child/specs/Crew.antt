@@ -1,5 +1,5 @@
 -- What a crew keeps, and what ties it to a place of a run.
-use Rattle.std.specs.Prelude.{◌≡◌, ◌≢◌, ℕ, ◌≤◌, ◌==◌, false, not, IsTrue, List, map, Option}
+use Rattle.std.specs.Prelude.{◌≡◌, ◌≢◌, ℕ, ◌≤◌, ◌==◌, false, not, IsTrue, List, map}
 use Rattle.std.specs.List.{All, AllPairs, Contains, filter, list_any}
 use Rattle.fk_trace.specs.declared.change.OpenRecord.{OpenRecord}
 use Rattle.fk_trace.specs.declared.change.Change.{Change}
@@ -9,7 +9,8 @@ use Rattle.fk_trace.specs.Ledger.{live, next_id}
 use Rattle.fk_run.specs.Place.{Place}
 use Rattle.fk_cycle.specs.Kept.{Kept}
 use Rattle.fk_cycle.specs.Stands.{Obligation, Stands}
-use Rattle.fk_host.specs.Disk.{Areas, Told, Above}
+use Rattle.fk_host.specs.declared.disk.Disk.{Ghosts as DiskMeaning}
+use Rattle.fk_host.specs.Disk.{Above}
 use Rattle.fk_host.specs.Host.{is_running}
 use Rattle.fk_ledger.specs.Book.{live_ids}
 use Rattle.fk_ledger.specs.Holds.{KeepsLedger}
@@ -37,8 +38,8 @@ pub record CrewHost : Type 1 where
   pub host : View
 
 -- a crew with a host whose meanings these are
-abbrev pub on_host : {H : Type 0} → (H → Option Told) → (H → ℕ → Areas → Type 0) → (H → ℕ) → (H → Above) → CrewState → H → CrewHost
-on_host told images faults above crew host = record { crew = crew; host = view_of told images faults above host }
+abbrev pub on_host : {H : Type 0} → DiskMeaning H → CrewState → H → CrewHost
+on_host means crew host = record { crew = crew; host = view_of means host }
 
 abbrev pub obligation_of : OpenRecord → Obligation
 obligation_of item = record { id = item.id; due = item.due }

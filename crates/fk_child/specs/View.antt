@@ -3,6 +3,7 @@ use Rattle.std.specs.Prelude.{◌≡◌, ℕ, ◌+◌, ◌-◌, ◌<◌, ◌≤�
 use Rattle.std.specs.List.{AllPairs, AllByRecursion}
 use Rattle.fk_trace.specs.declared.change.Change.{Change}
 use Rattle.fk_trace.specs.Trace.{Item}
+use Rattle.fk_host.specs.declared.disk.Disk.{Ghosts as DiskMeaning}
 use Rattle.fk_host.specs.Disk.{Areas, Told, Above, IfTold, KeepsPast}
 use Rattle.fk_run.specs.Left.{IsCutAt}
 use Rattle.fk_ledger.specs.Holds.{HoldsState}
@@ -18,8 +19,9 @@ pub record View : Type 1 where
   -- its children
   pub above : Above
 
-abbrev pub view_of : {H : Type 0} → (H → Option Told) → (H → ℕ → Areas → Type 0) → (H → ℕ) → (H → Above) → H → View
-view_of told images faults above host = record { told = told host; images = images host; faults = faults host; above = above host }
+abbrev pub view_of : {H : Type 0} → DiskMeaning H → H → View
+view_of means host =
+    record { told = means.told host; images = means.may_leave host; faults = means.faults host; above = means.above host }
 
 -- so many calls of the host were made
 abbrev pub MakesCalls : ℕ → View → View → Type 0

@@ -124,8 +124,8 @@ impl Crew {
     /// Marks that a turn begins, the one of this number.
     pub fn turn<H: Host>(&mut self, host: &mut H, number: u64)
         requires settled { self.old.unsettled ≡ [] }
-        requires stands { let on = on_host H.told H.may_leave H.faults H.above in StandsSomewhere (on self.old host.old) }
-        ensures marks { let on = on_host H.told H.may_leave H.faults H.above in
+        requires stands { let on = on_host H.Disk in StandsSomewhere (on self.old host.old) }
+        ensures marks { let on = on_host H.Disk in
             AtEach (MarksTurn number) (on self.old host.old) (on self.new host.new) }
         ensures rest { self.new ≡ record self.old { kept = self.new.kept } }
     {
@@ -136,8 +136,8 @@ impl Crew {
     /// Polls each child that runs once, by rising number.
     pub fn poll_all<H: Host>(&mut self, host: &mut H, moment: Moment)
         requires settled { self.old.unsettled ≡ [] }
-        requires stands { let on = on_host H.told H.may_leave H.faults H.above in StandsSomewhere (on self.old host.old) }
-        ensures polls { let on = on_host H.told H.may_leave H.faults H.above in
+        requires stands { let on = on_host H.Disk in StandsSomewhere (on self.old host.old) }
+        ensures polls { let on = on_host H.Disk in
             AtEach (PollsAll moment) (on self.old host.old) (on self.new host.new) }
         ensures room { self.new.room ≡ self.old.room }
     {
@@ -149,8 +149,8 @@ impl Crew {
 
     /// Polls the first child, and puts it behind the others where it was not found to have ended.
     fn poll_next<H: Host>(&mut self, host: &mut H, moment: Moment)
-        requires { let on = on_host H.told H.may_leave H.faults H.above in MayPoll (on self.old host.old) }
-        ensures polls { let on = on_host H.told H.may_leave H.faults H.above in
+        requires { let on = on_host H.Disk in MayPoll (on self.old host.old) }
+        ensures polls { let on = on_host H.Disk in
             PollsNext moment (on self.old host.old) (on self.new host.new) }
         ensures kept { (self.new.owed ≡ self.old.owed) × (self.new.room ≡ self.old.room) }
     {
@@ -192,8 +192,8 @@ impl Crew {
         ledger: &mut Ledger,
     ) -> Result<Option<u64>, Failed>
         requires unspent { ledger.old.is_spent ≡ false }
-        requires stands { let on = on_host H.told H.may_leave H.faults H.above in StandsOver ledger.old.changes (on self.old host.old) }
-        ensures settles { let on = on_host H.told H.may_leave H.faults H.above in
+        requires stands { let on = on_host H.Disk in StandsOver ledger.old.changes (on self.old host.old) }
+        ensures settles { let on = on_host H.Disk in
             AtEachOver ledger.old.changes (SettlesNext ledger.old ledger.new result) (on self.old host.old) (on self.new host.new) }
         ensures none { result ≡ Ok None → host.new ≡ host.old }
         ensures rest { (self.new.ends ≡ self.old.ends) × (self.new.room ≡ self.old.room) }
@@ -225,8 +225,8 @@ impl Crew {
         requires room { 1 ≤ self.old.room }
         requires settled { self.old.unsettled ≡ [] }
         requires words { 0 < length words.now }
-        requires awaits { let on = on_host H.told H.may_leave H.faults H.above in AwaitsSomewhere owed due (on self.old host.old) }
-        ensures starts { let on = on_host H.told H.may_leave H.faults H.above in
+        requires awaits { let on = on_host H.Disk in AwaitsSomewhere owed due (on self.old host.old) }
+        ensures starts { let on = on_host H.Disk in
             StartsOpen owed due words.now result (on self.old host.old) (on self.new host.new) }
         ensures room { self.new.room + 1 ≡ self.old.room }
         ensures rest { (self.new.unsettled ≡ []) × (self.new.ends ≡ self.old.ends) }
@@ -246,8 +246,8 @@ impl Crew {
         moment: Moment,
     ) -> Result<Option<Tried>, NoMemory>
         requires settled { self.old.unsettled ≡ [] }
-        requires stands { let on = on_host H.told H.may_leave H.faults H.above in StandsOver ledger.now.changes (on self.old host.old) }
-        ensures starts { let on = on_host H.told H.may_leave H.faults H.above in
+        requires stands { let on = on_host H.Disk in StandsOver ledger.now.changes (on self.old host.old) }
+        ensures starts { let on = on_host H.Disk in
             AtEachOver ledger.now.changes (StartsClose moment result) (on self.old host.old) (on self.new host.new) }
         ensures none { result ≡ Ok None → host.new ≡ host.old }
         ensures rest { self.new ≡ record self.old { children = self.new.children; kept = self.new.kept } }
@@ -271,8 +271,8 @@ impl Crew {
     ) -> Result<bool, NoMemory>
         requires words { 0 < length words.now }
         requires may { list_any (may_begin purpose) self.old.kept ≡ true }
-        requires stands { let on = on_host H.told H.may_leave H.faults H.above in StandsSomewhere (on self.old host.old) }
-        ensures starts { let on = on_host H.told H.may_leave H.faults H.above in
+        requires stands { let on = on_host H.Disk in StandsSomewhere (on self.old host.old) }
+        ensures starts { let on = on_host H.Disk in
             AtEach (Attempts purpose words.now result) (on self.old host.old) (on self.new host.new) }
         ensures rest { self.new ≡ record self.old { children = self.new.children; kept = self.new.kept } }
     {

@@ -14,14 +14,14 @@ use fk_host::Host;
 
 /// No calls add nothing, where the disk keeps the ledger.
 pub fn no_calls_add_nothing<H: Host>(host: &H)
-    ensures { let view = view_of H.told H.may_leave H.faults H.above in (ledger : List Change)
+    ensures { let view = view_of H.Disk in (ledger : List Change)
         → KeepsLedger ledger (H.told host.now) (H.may_leave host.now) → Adds [] ledger [] true (view host.now) (view host.now) }
 {}
 
 /// Calls of one turn that adjoin add up, where the first were whole and left the disk's count of faults, and each change of both
 /// stands between the items that attempt nothing and the attempts.
 pub fn adjoining_calls_add_up<H: Host>(first: &H, second: &H, third: &H)
-    ensures { let view = view_of H.told H.may_leave H.faults H.above in (earlier later : List Item) (ledger a b : List Change) (whole : Bool)
+    ensures { let view = view_of H.Disk in (earlier later : List Item) (ledger a b : List Change) (whole : Bool)
         → MayStandBefore earlier a later b → H.faults second.now ≡ H.faults first.now
         → Adds earlier ledger a true (view first.now) (view second.now) → Adds later (after ledger a) b whole (view second.now) (view third.now)
         → Adds (earlier ++ later) ledger (a ++ b) whole (view first.now) (view third.now) }

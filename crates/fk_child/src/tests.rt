@@ -44,8 +44,8 @@ fn begin<H: Host>(
     moment: Moment,
     seen: &mut Vec<Seen>,
 ) -> Result<(), NoMemory>
-    requires { let on = on_host H.told H.may_leave H.faults H.above in MayServe ledger.now (on crew.old host.old) }
-    ensures { let on = on_host H.told H.may_leave H.faults H.above in OnOk result (StandsOver ledger.now.changes (on crew.new host.new)) }
+    requires { let on = on_host H.Disk in MayServe ledger.now (on crew.old host.old) }
+    ensures { let on = on_host H.Disk in OnOk result (StandsOver ledger.now.changes (on crew.new host.new)) }
 {
     seen.push(Seen::Turn(number))?;
     crew.turn(host, number);
@@ -64,8 +64,8 @@ fn settle<H: Host>(
     seen: &mut Vec<Seen>,
 ) -> Result<(), NoMemory>
     requires unspent { ledger.old.is_spent ≡ false }
-    requires stands { let on = on_host H.told H.may_leave H.faults H.above in StandsOver ledger.old.changes (on crew.old host.old) }
-    ensures { let on = on_host H.told H.may_leave H.faults H.above in OnOk result (MayServe ledger.new (on crew.new host.new)) }
+    requires stands { let on = on_host H.Disk in StandsOver ledger.old.changes (on crew.old host.old) }
+    ensures { let on = on_host H.Disk in OnOk result (MayServe ledger.new (on crew.new host.new)) }
 {
     for _ in 0..u64::MAX {
         match crew.settle_next(host, ledger) {
@@ -86,8 +86,8 @@ fn open<H: Host>(
     moment: Moment,
     seen: &mut Vec<Seen>,
 ) -> Result<(), NoMemory>
-    requires { let on = on_host H.told H.may_leave H.faults H.above in MayServe ledger.old (on crew.old host.old) }
-    ensures { let on = on_host H.told H.may_leave H.faults H.above in OnOk result (MayServe ledger.new (on crew.new host.new)) }
+    requires { let on = on_host H.Disk in MayServe ledger.old (on crew.old host.old) }
+    ensures { let on = on_host H.Disk in OnOk result (MayServe ledger.new (on crew.new host.new)) }
 {
     let item = record_of(alloc, ledger.next_id(), moment)?;
     let due = item.due;
@@ -113,8 +113,8 @@ fn close<H: Host>(
     moment: Moment,
     seen: &mut Vec<Seen>,
 ) -> Result<(), NoMemory>
-    requires { let on = on_host H.told H.may_leave H.faults H.above in MayServe ledger.now (on crew.old host.old) }
-    ensures { let on = on_host H.told H.may_leave H.faults H.above in OnOk result (MayServe ledger.now (on crew.new host.new)) }
+    requires { let on = on_host H.Disk in MayServe ledger.now (on crew.old host.old) }
+    ensures { let on = on_host H.Disk in OnOk result (MayServe ledger.now (on crew.new host.new)) }
 {
     for _ in 0..u64::MAX {
         match crew.start_close(host, ledger, moment)? {
@@ -205,8 +205,8 @@ fn serve<H: Host>(
     moment: Moment,
     seen: &mut Vec<Seen>,
 ) -> Result<(), NoMemory>
-    requires { let on = on_host H.told H.may_leave H.faults H.above in MayServe ledger.old (on crew.old host.old) }
-    ensures { let on = on_host H.told H.may_leave H.faults H.above in OnOk result (MayServe ledger.new (on crew.new host.new)) }
+    requires { let on = on_host H.Disk in MayServe ledger.old (on crew.old host.old) }
+    ensures { let on = on_host H.Disk in OnOk result (MayServe ledger.new (on crew.new host.new)) }
 {
     begin(crew, host, ledger, number, moment, seen)?;
     settle(crew, host, ledger, seen)?;

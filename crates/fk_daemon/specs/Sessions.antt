@@ -19,6 +19,9 @@ use Rattle.fk_run.specs.Ending.{is_datagram, turn_limit}
 use Rattle.fk_host.specs.Count.{counted}
 use Rattle.fk_host.specs.Disk.{Areas, IfTold}
 use Rattle.fk_host.specs.declared.feed.Turn.{Turn}
+use Rattle.fk_host.specs.declared.feed.Feed.{Ghosts as FeedMeaning}
+use Rattle.fk_host.specs.declared.disk.Disk.{Ghosts as DiskMeaning}
+use Rattle.fk_host.specs.declared.stream.Sink.{Ghosts as SinkMeaning}
 use Rattle.fk_host.specs.Feed.{GivesTurns, is_end_input}
 use Rattle.fk_host.specs.Feed.{turns_of as turns_of_feed}
 use Rattle.fk_journal.specs.declared.fault.JournalErr.{JournalErr}
@@ -43,7 +46,7 @@ use Rattle.fk_daemon.specs.declared.session.Session.{Session}
 use Rattle.fk_daemon.specs.declared.session.Stop.{Stop}
 use Rattle.fk_daemon.specs.declared.session.Stop.TheVariants as stop
 use Rattle.fk_log.specs.Printing.{SinkView, Prints}
-use Rattle.fk_daemon.specs.Outside.{Outside, Feeds}
+use Rattle.fk_daemon.specs.Outside.{Outside, Feeds, outside_by}
 use Rattle.fk_daemon.specs.Account.{Account, IsServing, tried_changes}
 use Rattle.fk_daemon.specs.Serving.{HasStatus, HasCauses}
 
@@ -52,8 +55,9 @@ pub record Standing : Type 1 where
   pub session : Session
   pub outside : Outside
 
-abbrev pub standing_by : {E H K : Type 0} → (E → H → K → Outside) → Session → E → H → K → Standing
-standing_by outside session feed host sink = record { session = session; outside = outside feed host sink }
+abbrev pub standing_by : {E H K : Type 0} → FeedMeaning E → DiskMeaning H → SinkMeaning K → Session → E → H → K → Standing
+standing_by feed_means disk_means sink_means session feed host sink =
+    record { session = session; outside = outside_by feed_means disk_means sink_means feed host sink }
 
 abbrev pub output_of : Standing → Output
 output_of at = output at.session.log at.outside.sink.written at.outside.sink.faults

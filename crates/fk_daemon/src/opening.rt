@@ -19,9 +19,9 @@ pub(crate) fn open_daemon<H: Host>(
     conf: &Conf,
     host: &mut H,
 ) -> Result<Daemon, LedgerErr>
-    ensures ok { let view = view_of H.told H.may_leave H.faults H.above in IfOk result (OpensDaemon conf.now (view host.old) (view host.new)) }
-    ensures vain { let view = view_of H.told H.may_leave H.faults H.above in IfErr result (λ _. OpensInVain (view host.old) (view host.new)) }
-    ensures cause { let view = view_of H.told H.may_leave H.faults H.above in IfErr result (λ fault. HasOpeningCause fault (view host.old) (view host.new)) }
+    ensures ok { let view = view_of H.Disk in IfOk result (OpensDaemon conf.now (view host.old) (view host.new)) }
+    ensures vain { let view = view_of H.Disk in IfErr result (λ _. OpensInVain (view host.old) (view host.new)) }
+    ensures cause { let view = view_of H.Disk in IfErr result (λ fault. HasOpeningCause fault (view host.old) (view host.new)) }
 {
     let (ledger, owed) = Ledger::open(alloc, host, conf.room, conf.live)?;
     match Daemon::resume(alloc, ledger, owed) {
@@ -35,7 +35,7 @@ pub(crate) fn open_daemon<H: Host>(
 
 /// Says why no ledger was opened.
 pub(crate) fn say_fault<K: Sink>(verbosity: Verbosity, fault: LedgerErr, out: &mut K) -> Status
-    ensures { let at = sink_by K.written K.faults in SaysFault verbosity fault (at out.old) (at out.new) result }
+    ensures { let at = sink_by K.Sink in SaysFault verbosity fault (at out.old) (at out.new) result }
 {
     let mut log = LogWriter::new(verbosity);
     match fault {

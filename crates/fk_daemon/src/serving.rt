@@ -22,7 +22,7 @@ pub fn serve<E: Feed, H: Host, K: Sink>(
     out: &mut K,
 ) -> Status
     requires { AreLimits task.now.limits }
-    ensures serves { let at = outside_by (feed_by E.told E.faults E.has_ended) (view_of H.told H.may_leave H.faults H.above) (sink_by K.written K.faults) in
+    ensures serves { let at = outside_by E.Feed H.Disk K.Sink in
         Serves task.now (at feed.old host.old out.old) (at feed.new host.new out.new) result }
     ensures feed { FailsOnlyAs Status.FeedFault result (E.faults feed.old) (E.faults feed.new) }
     ensures disk { FailsOnlyAs Status.DiskFault result (H.faults host.old) (H.faults host.new) }

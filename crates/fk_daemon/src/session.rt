@@ -64,10 +64,10 @@ impl Session {
         host: &mut H,
         out: &mut K,
     ) -> Stop
-        requires begins { let at = standing_by (outside_by (feed_by E.told E.faults E.has_ended) (view_of H.told H.may_leave H.faults H.above) (sink_by K.written K.faults)) in
+        requires begins { let at = standing_by E.Feed H.Disk K.Sink in
             BeginsSomehow task.now (at self.old feed.old host.old out.old) }
         requires limits { AreLimits task.now.limits }
-        ensures { let at = standing_by (outside_by (feed_by E.told E.faults E.has_ended) (view_of H.told H.may_leave H.faults H.above) (sink_by K.written K.faults)) in
+        ensures { let at = standing_by E.Feed H.Disk K.Sink in
             (ledger : List Change) → Begins task.now ledger (at self.old feed.old host.old out.old)
             → Finishes task.now ledger result (at self.old feed.old host.old out.old) (at self.new feed.new host.new out.new) }
     {
@@ -105,9 +105,9 @@ impl Session {
         host: &mut H,
         out: &mut K,
     ) -> Option<Stop>
-        requires { let at = standing_by (outside_by (feed_by E.told E.faults E.has_ended) (view_of H.told H.may_leave H.faults H.above) (sink_by K.written K.faults)) in
+        requires { let at = standing_by E.Feed H.Disk K.Sink in
             MayServe task.now (at self.old feed.old host.old out.old) }
-        ensures { let at = standing_by (outside_by (feed_by E.told E.faults E.has_ended) (view_of H.told H.may_leave H.faults H.above) (sink_by K.written K.faults)) in
+        ensures { let at = standing_by E.Feed H.Disk K.Sink in
             (place : Place) → AtRest task.now.policy.conf.now (scene_of (at self.old feed.old host.old out.old)) place
             → AsksNext task.now result place (at self.old feed.old host.old out.old) (at self.new feed.new host.new out.new) }
     {
@@ -129,9 +129,9 @@ impl Session {
         host: &mut H,
         out: &mut K,
     ) -> Option<Stop>
-        requires { let at = standing_by (outside_by (feed_by E.told E.faults E.has_ended) (view_of H.told H.may_leave H.faults H.above) (sink_by K.written K.faults)) in
+        requires { let at = standing_by E.Feed H.Disk K.Sink in
             MayServe task.now (at self.old feed.now host.old out.old) }
-        ensures { let at = standing_by (outside_by (feed_by E.told E.faults E.has_ended) (view_of H.told H.may_leave H.faults H.above) (sink_by K.written K.faults)) in
+        ensures { let at = standing_by E.Feed H.Disk K.Sink in
             (place : Place) → AtRest task.now.policy.conf.now (scene_of (at self.old feed.now host.old out.old)) place
             → ServesTaken task.now (turn_of arrival.now) result place (at self.old feed.now host.old out.old) (at self.new feed.now host.new out.new) }
     {
@@ -166,7 +166,7 @@ impl Session {
     /// Writes the last line, and leaves every record on the disk.
     pub(crate) fn end<K: Sink>(mut self, stop: Stop, out: &mut K) -> Status
         requires { OwesItsLive self.daemon }
-        ensures { let at = sink_by K.written K.faults in SaysEnd stop self (at out.old) (at out.new) result }
+        ensures { let at = sink_by K.Sink in SaysEnd stop self (at out.old) (at out.new) result }
     {
         self.say_end(stop, out);
         let Session {

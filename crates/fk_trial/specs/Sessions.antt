@@ -10,6 +10,8 @@ use Rattle.fk_run.specs.Turn.{TakenTurn, WholeTurn, after_turn, after_turns}
 use Rattle.fk_run.specs.Run.{Run, Ending}
 use Rattle.fk_run.specs.Run.Ending.{AtEnd, AtWantOfMemory, AtBadLine, AtLongInput, AtReadFault}
 use Rattle.fk_run.specs.Legal.{LegalTurns}
+use Rattle.fk_host.specs.declared.stream.Source.{Ghosts as SourceMeaning}
+use Rattle.fk_host.specs.declared.stream.Sink.{Ghosts as SinkMeaning}
 use Rattle.fk_host.specs.Count.{counted}
 use Rattle.fk_host.specs.Medium.{Memory, told_of, leaves_of, above_of}
 use Rattle.fk_input.specs.Lines.{input_limit}
@@ -33,7 +35,7 @@ use Rattle.fk_trial.specs.declared.session.Session.{Session}
 use Rattle.fk_trial.specs.declared.session.Stop.{Stop}
 use Rattle.fk_trial.specs.declared.session.Stop.TheVariants as stop
 use Rattle.fk_trial.specs.Lines.{IsTurnLine}
-use Rattle.fk_trial.specs.Streams.{Streams, TakesAtMost}
+use Rattle.fk_trial.specs.Streams.{Streams, TakesAtMost, streams_by}
 use Rattle.fk_trial.specs.Trace.{IsTrialTrace}
 use Rattle.fk_trial.specs.Trial.{IsTrial, HasTurns, HasStatus}
 use Rattle.fk_trial.specs.Replay.{IsReplay}
@@ -43,8 +45,8 @@ pub record Standing : Type 0 where
   pub session : Session
   pub streams : Streams
 
-abbrev pub standing_by : {I K : Type 0} → (I → K → Streams) → Session → I → K → Standing
-standing_by streams session input out = record { session = session; streams = streams input out }
+abbrev pub standing_by : {I K : Type 0} → SourceMeaning I → SinkMeaning K → Session → I → K → Standing
+standing_by source sink session input out = record { session = session; streams = streams_by source sink input out }
 
 -- what the host says
 abbrev pub view : Memory → View

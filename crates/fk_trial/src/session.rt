@@ -69,9 +69,9 @@ impl Session {
         input: &mut I,
         out: &mut K,
     ) -> Stop
-        requires { let at = standing_by (streams_by (source_by I.left I.faults) (sink_by K.written K.faults)) in
+        requires { let at = standing_by I.Source K.Sink in
             GoingSomehow task.now.policy (at self.old input.old out.old) }
-        ensures { let at = standing_by (streams_by (source_by I.left I.faults) (sink_by K.written K.faults)) in
+        ensures { let at = standing_by I.Source K.Sink in
             (start : Standing) (turns : List TakenTurn) → Going task.now.policy turns start (at self.old input.old out.old)
             → Stopped task.now.policy result start (at self.new input.new out.new) }
     {
@@ -89,9 +89,9 @@ impl Session {
         input: &mut I,
         out: &mut K,
     ) -> Option<Stop>
-        requires { let at = standing_by (streams_by (source_by I.left I.faults) (sink_by K.written K.faults)) in
+        requires { let at = standing_by I.Source K.Sink in
             GoingSomehow policy.now (at self.old input.old out.old) }
-        ensures goes { let at = standing_by (streams_by (source_by I.left I.faults) (sink_by K.written K.faults)) in
+        ensures goes { let at = standing_by I.Source K.Sink in
             (start : Standing) (turns : List TakenTurn) → Going policy.now turns start (at self.old input.old out.old)
             → GoesOn policy.now result turns start (at self.new input.new out.new) }
         ensures progress { IfNone result (self.old.reader.offset < self.new.reader.offset) }
@@ -107,8 +107,8 @@ impl Session {
 
     /// Serves the turn that the line says, and writes its lines.
     fn serve_turn<K: Sink>(&mut self, policy: &Policy<'_>, out: &mut K) -> Option<Stop>
-        requires { let sink = sink_by K.written K.faults in MayServe policy.now.conf.now self.old (sink out.old) }
-        ensures { let sink = sink_by K.written K.faults in
+        requires { let sink = sink_by K.Sink in MayServe policy.now.conf.now self.old (sink out.old) }
+        ensures { let sink = sink_by K.Sink in
             (place : Place) → RestsAt policy.now.conf.now self.old.daemon self.old.host place
             → ServesLine policy.now result place self.old self.new (sink out.old) (sink out.new) }
     {
@@ -129,7 +129,7 @@ impl Session {
     /// Writes the lines of a turn that was served, where no write has failed and the page could hold them.
     fn print<K: Sink>(&mut self, page: &[u8], out: &mut K) -> Option<Stop>
         requires { self.old.turns < 2 ^ 63 }
-        ensures { let sink = sink_by K.written K.faults in PrintsPage page.now result self.old self.new (sink out.old) (sink out.new) }
+        ensures { let sink = sink_by K.Sink in PrintsPage page.now result self.old self.new (sink out.old) (sink out.new) }
     {
         if self.lacks_lines() {
             return Some(Stop::NoMemory);
@@ -149,7 +149,7 @@ impl Session {
     /// Writes the last line, and leaves every record to the host.
     pub(crate) fn end<K: Sink>(mut self, stop: Stop, out: &mut K) -> Status
         requires { MayEnd stop self }
-        ensures { let sink = sink_by K.written K.faults in EndsSo stop self result (sink out.old) (sink out.new) }
+        ensures { let sink = sink_by K.Sink in EndsSo stop self result (sink out.old) (sink out.new) }
     {
         self.say_last(stop, out);
         let Session {
@@ -169,7 +169,7 @@ impl Session {
     fn say_last<K: Sink>(&mut self, stop: Stop, out: &mut K)
         requires few { self.old.turns ≤ input_limit }
         requires pages { MaySumUp stop (HoldsPages self.old) }
-        ensures says { let sink = sink_by K.written K.faults in SaysLast stop self.old self.new (sink out.old) (sink out.new) }
+        ensures says { let sink = sink_by K.Sink in SaysLast stop self.old self.new (sink out.old) (sink out.new) }
         ensures rest { self.new ≡ record self.old { log = self.new.log; is_broken = self.new.is_broken } }
     {
         if !self.may_write() {
@@ -217,7 +217,7 @@ impl Session {
 
 /// Writes the text, where no write has failed before. Answers whether one has failed now.
 fn send<K: Sink>(text: &[u8], out: &mut K, is_broken: bool) -> bool
-    ensures { let sink = sink_by K.written K.faults in Sends text.now is_broken result (sink out.old) (sink out.new) }
+    ensures { let sink = sink_by K.Sink in Sends text.now is_broken result (sink out.old) (sink out.new) }
 {
     if is_broken {
         return true;

@@ -19,7 +19,7 @@ pub fn trial<I: Source, K: Sink>(
     input: &mut I,
     out: &mut K,
 ) -> Status
-    ensures tries { let at = streams_by (source_by I.left I.faults) (sink_by K.written K.faults) in
+    ensures tries { let at = streams_by I.Source K.Sink in
         Tries task.now (at input.old out.old) (at input.new out.new) result }
     ensures input { FailsOnlyAs Status.ReadFault result (I.faults input.old) (I.faults input.new) }
     ensures sink { FailsSink result (K.faults out.old) (K.faults out.new) }

@@ -1,10 +1,12 @@
 -- A daemon between two calls: what it keeps, its host and its log; and what ties the three to a place of a run.
-use Rattle.std.specs.Prelude.{◌≡◌, ℕ, ◌+◌, false, [], Option, List}
+use Rattle.std.specs.Prelude.{◌≡◌, ℕ, ◌+◌, false, []}
 use Rattle.fk_run.specs.Place.{Place}
+use Rattle.fk_host.specs.declared.disk.Disk.{Ghosts as DiskMeaning}
+use Rattle.fk_host.specs.declared.stream.Sink.{Ghosts as SinkMeaning}
 use Rattle.fk_conf.specs.declared.conf.Conf.{Conf}
 use Rattle.fk_ledger.specs.Book.{Book}
 use Rattle.fk_child.specs.Crew.{CrewState, StandsAt}
-use Rattle.fk_child.specs.View.{View}
+use Rattle.fk_child.specs.View.{View, view_of}
 use Rattle.fk_log.specs.Writing.{LogState, Output, output}
 
 -- a daemon as contracts see it
@@ -24,11 +26,11 @@ abbrev pub scene : DaemonState → View → Output → Scene
 scene daemon host output = record { daemon = daemon; host = host; output = output }
 
 -- the same, of the objects by what they mean
-abbrev pub output_by : {K : Type 0} → (K → Option (List ℕ)) → (K → ℕ) → LogState → K → Output
-output_by written faults log sink = output log (written sink) (faults sink)
+abbrev pub output_by : {K : Type 0} → SinkMeaning K → LogState → K → Output
+output_by means log sink = output log (means.written sink) (means.faults sink)
 
-abbrev pub scene_by : {H K : Type 0} → (H → View) → (LogState → K → Output) → DaemonState → H → LogState → K → Scene
-scene_by view out daemon host log sink = scene daemon (view host) (out log sink)
+abbrev pub scene_by : {H K : Type 0} → DiskMeaning H → SinkMeaning K → DaemonState → H → LogState → K → Scene
+scene_by disk out daemon host log sink = scene daemon (view_of disk host) (output_by out log sink)
 
 -- The daemon stands at the place: its ledger is the one of the place, within the configuration's bounds, and its crew stands there;
 -- the turn that is served, or else the next one, has the number of the place. It does so in the midst of a turn too.

@@ -88,10 +88,10 @@ impl Daemon {
         log: &mut LogWriter,
         out: &mut K,
     ) -> Result<(), TurnErr>
-        requires rests { let at = scene_by (view_of H.told H.may_leave H.faults H.above) (output_by K.written K.faults) in
+        requires rests { let at = scene_by H.Disk K.Sink in
             Rests policy.now.conf.now (at self.old host.old log.old out.old) }
         requires fits { self.old.turns < 2 ^ 63 }
-        ensures serves { let at = scene_by (view_of H.told H.may_leave H.faults H.above) (output_by K.written K.faults) in
+        ensures serves { let at = scene_by H.Disk K.Sink in
             TakesTurn policy.now arrival.now result (at self.old host.old log.old out.old) (at self.new host.new log.new out.new) }
     {
         self.begin(arrival.moment, host, log, out);
@@ -125,10 +125,10 @@ impl Daemon {
         log: &mut LogWriter,
         out: &mut K,
     )
-        requires rests { let at = scene_by (view_of H.told H.may_leave H.faults H.above) (output_by K.written K.faults) in
+        requires rests { let at = scene_by H.Disk K.Sink in
             RestsSomehow (at self.old host.old log.old out.old) }
         requires fits { self.old.turns < 2 ^ 63 }
-        ensures { let at = scene_by (view_of H.told H.may_leave H.faults H.above) (output_by K.written K.faults) in
+        ensures { let at = scene_by H.Disk K.Sink in
             (conf : Conf) (place : Place) → AtRest conf (at self.old host.old log.old out.old) place
             → BeginsTurn conf moment place (at self.old host.old log.old out.old) (at self.new host.new log.new out.new) }
     {
@@ -147,9 +147,9 @@ impl Daemon {
         log: &mut LogWriter,
         out: &mut K,
     ) -> Result<(), Failed>
-        requires { let at = scene_by (view_of H.told H.may_leave H.faults H.above) (output_by K.written K.faults) in
+        requires { let at = scene_by H.Disk K.Sink in
             StandsSomehow (at self.old host.old log.old out.old) }
-        ensures { let at = scene_by (view_of H.told H.may_leave H.faults H.above) (output_by K.written K.faults) in
+        ensures { let at = scene_by H.Disk K.Sink in
             (conf : Conf) (place : Place) → DaemonStands conf (at self.old host.old log.old out.old) place
             → Settles conf moment place (at self.old host.old log.old out.old) (at self.new host.new log.new out.new) result }
     {
@@ -168,9 +168,9 @@ impl Daemon {
         log: &mut LogWriter,
         out: &mut K,
     ) -> Result<(), TurnErr>
-        requires { let at = scene_by (view_of H.told H.may_leave H.faults H.above) (output_by K.written K.faults) in
+        requires { let at = scene_by H.Disk K.Sink in
             Rests policy.now.conf.now (at self.old host.old log.old out.old) }
-        ensures { let at = scene_by (view_of H.told H.may_leave H.faults H.above) (output_by K.written K.faults) in
+        ensures { let at = scene_by H.Disk K.Sink in
             (place : Place) → AtRest policy.now.conf.now (at self.old host.old log.old out.old) place
             → Answers policy.now place (turn_of arrival.now) (at self.old host.old log.old out.old) (at self.new host.new log.new out.new) result }
     {
@@ -194,9 +194,9 @@ impl Daemon {
         log: &mut LogWriter,
         out: &mut K,
     ) -> Result<(), TurnErr>
-        requires { let at = scene_by (view_of H.told H.may_leave H.faults H.above) (output_by K.written K.faults) in
+        requires { let at = scene_by H.Disk K.Sink in
             Rests policy.now.conf.now (at self.old host.old log.old out.old) }
-        ensures { let at = scene_by (view_of H.told H.may_leave H.faults H.above) (output_by K.written K.faults) in
+        ensures { let at = scene_by H.Disk K.Sink in
             (place : Place) → AtRest policy.now.conf.now (at self.old host.old log.old out.old) place
             → Answers policy.now place (datagram_turn moment source bytes.now) (at self.old host.old log.old out.old) (at self.new host.new log.new out.new) result }
     {
@@ -256,11 +256,11 @@ impl Daemon {
         log: &mut LogWriter,
         out: &mut K,
     ) -> Result<(), TurnErr>
-        requires rests { let at = scene_by (view_of H.told H.may_leave H.faults H.above) (output_by K.written K.faults) in
+        requires rests { let at = scene_by H.Disk K.Sink in
             RestsSomehow (at self.old host.old log.old out.old) }
         requires ready { IsReadyFor draft self.old }
         requires next { MayFollow self.old.book.changes (OpenChange draft.item) }
-        ensures { let at = scene_by (view_of H.told H.may_leave H.faults H.above) (output_by K.written K.faults) in
+        ensures { let at = scene_by H.Disk K.Sink in
             (policy : GivenPolicy) (place : Place) (datagram : List ℕ) (grant : GivenGrant) → AtRest policy.conf.now (at self.old host.old log.old out.old) place
             → IsGrantedBy policy place.ledger moment source datagram grant → IsDraftOf policy place.ledger moment datagram grant draft → stanza ≡ grant.stanza
             → Answers policy place (datagram_turn moment source datagram) (at self.old host.old log.old out.old) (at self.new host.new log.new out.new) result }
@@ -315,9 +315,9 @@ impl Daemon {
         log: &mut LogWriter,
         out: &mut K,
     ) -> Result<(), NoMemory>
-        requires { let at = scene_by (view_of H.told H.may_leave H.faults H.above) (output_by K.written K.faults) in
+        requires { let at = scene_by H.Disk K.Sink in
             RestsSomehow (at self.old host.old log.old out.old) }
-        ensures { let at = scene_by (view_of H.told H.may_leave H.faults H.above) (output_by K.written K.faults) in
+        ensures { let at = scene_by H.Disk K.Sink in
             (conf : Conf) (place : Place) → AtRest conf (at self.old host.old log.old out.old) place
             → Closes conf moment place (at self.old host.old log.old out.old) (at self.new host.new log.new out.new) result }
     {

@@ -36,7 +36,7 @@ fn serve_each<H: Host, K: Sink>(
     log: &mut LogWriter,
     out: &mut K,
 ) -> Result<(), TurnErr>
-    requires rests { let at = scene_by (view_of H.told H.may_leave H.faults H.above) (output_by K.written K.faults) in
+    requires rests { let at = scene_by H.Disk K.Sink in
         Rests policy.now.conf.now (at daemon host.old log.old out.old) }
     requires first { daemon.turns ≡ 0 }
     requires few { length arrivals.now ≤ 100 }

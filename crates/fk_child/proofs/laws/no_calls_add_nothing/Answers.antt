@@ -4,5 +4,5 @@ use Rattle.fk_child.proofs.laws.no_calls_add_nothing.Goals as goal
 
 pub returns : goal.returns
 returns g c =
-    let view = view_of g.H.Disk.told g.H.Disk.may_leave g.H.Disk.faults g.H.Disk.above in
+    let view = view_of g.H.Disk in
     λ ledger keeps. adds-none ledger (view c.args.host.now) keeps

@@ -5,7 +5,7 @@ use Rattle.fk_child.proofs.tests.close.Goals as goal
 
 pub loop-preserved : goal.loop-preserved
 loop-preserved g c =
-    let on = on_host g.H.Disk.told g.H.Disk.may_leave g.H.Disk.faults g.H.Disk.above in
+    let on = on_host g.H.Disk in
     let told = rw c.in-Some.is at c.in_ok-tried.ensures in
     record {
       unspent = c.loop.invariant.unspent;

@@ -4,5 +4,5 @@ use Rattle.fk_child.proofs.tests.close.Given as goal
 
 abbrev pub invariant-loop : goal.invariant-loop
 invariant-loop g l =
-    let on = on_host g.H.Disk.told g.H.Disk.may_leave g.H.Disk.faults g.H.Disk.above in
+    let on = on_host g.H.Disk in
     MayServe l.ledger (on l.crew l.host)

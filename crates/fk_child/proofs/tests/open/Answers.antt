@@ -14,7 +14,7 @@ record-requires-clause-next g c = (
 
 pub start_open-requires-clause-awaits : goal.start_open-requires-clause-awaits
 start_open-requires-clause-awaits g c =
-    let on = on_host g.H.Disk.told g.H.Disk.may_leave g.H.Disk.faults g.H.Disk.above in
+    let on = on_host g.H.Disk in
     let at = c.requires.stands in
     let e = at.1 ∙ ap (λ (b : Book). b.changes) (sym c.in_ok-reserve-2.ensures.rest) in (
       c.in_ok-item.item,
@@ -25,7 +25,7 @@ start_open-requires-clause-awaits g c =
 
 pub returns : goal.returns
 returns g c =
-    let on = on_host g.H.Disk.told g.H.Disk.may_leave g.H.Disk.faults g.H.Disk.above in
+    let on = on_host g.H.Disk in
     let at = c.requires.stands in
     let e = at.1 ∙ ap (λ (b : Book). b.changes) (sym c.in_ok-reserve-2.ensures.rest) in
     let made = ap (λ (b : Book). b.changes) c.in-Ok.ensures.ok in

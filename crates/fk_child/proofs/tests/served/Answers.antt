@@ -9,7 +9,7 @@ use Rattle.fk_child.proofs.tests.served.Goals as goal
 
 pub loop-number-init : goal.loop-number-init
 loop-number-init g c =
-    resumed c.in-Ok.ledger c.in-Ok-resume.crew (on_host told_of leaves_of (λ host. host.faults) above_of c.in-Ok-resume.crew c.open.new.disk).host
+    resumed c.in-Ok.ledger c.in-Ok-resume.crew (record { told = told_of c.open.new.disk; images = leaves_of c.open.new.disk; faults = c.open.new.disk.faults; above = above_of c.open.new.disk })
     c.in-Ok.ensures.fresh.2 c.in-Ok-resume.ensures.fresh.1 c.in-Ok-resume.ensures.tied c.in-Ok.ensures.keeps
 
 pub park-requires : goal.park-requires

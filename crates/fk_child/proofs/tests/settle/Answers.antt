@@ -6,14 +6,14 @@ use Rattle.fk_child.proofs.tests.settle.Goals as goal
 
 pub loop-preserved : goal.loop-preserved
 loop-preserved g c =
-    let on = on_host g.H.Disk.told g.H.Disk.may_leave g.H.Disk.faults g.H.Disk.above in
+    let on = on_host g.H.Disk in
     let told = rw c.in-Ok-Some.field-0-is at c.in-Ok-Some.ensures in
     let one = settled-one c.loop.ledger c.settle_next.new.ledger c.in-Ok-Some.id (on c.loop.crew c.loop.host) (on c.settle_next.new.self c.settle_next.new.host) c.loop.invariant.1 told.settles in
     (one.1 ∙ c.loop.invariant.0, one.0)
 
 pub returns-in-Ok-None : goal.returns-in-Ok-None
 returns-in-Ok-None g c =
-    let on = on_host g.H.Disk.told g.H.Disk.may_leave g.H.Disk.faults g.H.Disk.above in
+    let on = on_host g.H.Disk in
     let told = rw c.in-Ok-None.field-0-is at c.in-Ok-None.ensures in
     let at = c.loop.invariant.1 in
     let none = told.settles at.0 at.1 at.2 in

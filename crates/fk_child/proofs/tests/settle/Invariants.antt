@@ -4,5 +4,5 @@ use Rattle.fk_child.proofs.tests.settle.Given as goal
 
 abbrev pub invariant-loop : goal.invariant-loop
 invariant-loop g l =
-    let on = on_host g.H.Disk.told g.H.Disk.may_leave g.H.Disk.faults g.H.Disk.above in
+    let on = on_host g.H.Disk in
     (l.ledger.is_spent ≡ false) × StandsOver l.ledger.changes (on l.crew l.host)

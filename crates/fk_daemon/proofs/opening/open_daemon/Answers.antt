@@ -4,7 +4,7 @@ use Rattle.fk_daemon.proofs.opening.open_daemon.Goals as goal
 
 pub returns-in-Ok-clause-ok : goal.returns-in-Ok-clause-ok
 returns-in-Ok-clause-ok g c =
-    let view = view_of g.H.Disk.told g.H.Disk.may_leave g.H.Disk.faults g.H.Disk.above in
+    let view = view_of g.H.Disk in
     let e = c.in_ok-ledger.ensures in
     let opened : Opened c.args.conf.now c.in_ok-ledger.ledger (view c.args.host.now) (view c.open.new.disk) =
     record { held = e.held; fresh = e.fresh; keeps = e.keeps; moments = e.moments; trace = e.host.trace; entries = e.entries; others = e.others; disk = e.cause } in
@@ -12,7 +12,7 @@ returns-in-Ok-clause-ok g c =
 
 pub returns-in-Err-clause-vain : goal.returns-in-Err-clause-vain
 returns-in-Err-clause-vain g c =
-    let view = view_of g.H.Disk.told g.H.Disk.may_leave g.H.Disk.faults g.H.Disk.above in
+    let view = view_of g.H.Disk in
     let e = c.in_ok-ledger.ensures in
     let opened : Opened c.args.conf.now c.in_ok-ledger.ledger (view c.args.host.now) (view c.open.new.disk) =
     record { held = e.held; fresh = e.fresh; keeps = e.keeps; moments = e.moments; trace = e.host.trace; entries = e.entries; others = e.others; disk = e.cause } in

@@ -10,22 +10,22 @@ use Rattle.fk_daemon.proofs.serving.serve.Goals as goal
 
 pub run-stop-requires-clause-begins : goal.run-stop-requires-clause-begins
 run-stop-requires-clause-begins g c =
-    let at = outside_by (feed_by g.E.Feed.told g.E.Feed.faults g.E.Feed.has_ended) (view_of g.H.Disk.told g.H.Disk.may_leave g.H.Disk.faults g.H.Disk.above) (sink_by g.K.Sink.written g.K.Sink.faults) in
-    let view = view_of g.H.Disk.told g.H.Disk.may_leave g.H.Disk.faults g.H.Disk.above in
+    let at = outside_by g.E.Feed g.H.Disk g.K.Sink in
+    let view = view_of g.H.Disk in
     (c.in-Ok.daemon.book.changes, begun c.args.task.now (at c.args.feed.now c.args.host.now c.args.out.now) (view c.open_daemon.new.host) c.in-Ok.daemon c.new-session.result c.in-Ok.ensures.ok c.new-session.ensures)
 
 pub end-requires : goal.end-requires
 end-requires g c =
-    let at = outside_by (feed_by g.E.Feed.told g.E.Feed.faults g.E.Feed.has_ended) (view_of g.H.Disk.told g.H.Disk.may_leave g.H.Disk.faults g.H.Disk.above) (sink_by g.K.Sink.written g.K.Sink.faults) in
-    let view = view_of g.H.Disk.told g.H.Disk.may_leave g.H.Disk.faults g.H.Disk.above in
+    let at = outside_by g.E.Feed g.H.Disk g.K.Sink in
+    let view = view_of g.H.Disk in
     (c.run-stop.ensures c.in-Ok.daemon.book.changes
     (begun c.args.task.now (at c.args.feed.now c.args.host.now c.args.out.now) (view c.open_daemon.new.host) c.in-Ok.daemon c.new-session.result c.in-Ok.ensures.ok c.new-session.ensures)).parks
 
 pub returns-in-Ok : goal.returns-in-Ok
 returns-in-Ok g c =
-    let at = outside_by (feed_by g.E.Feed.told g.E.Feed.faults g.E.Feed.has_ended) (view_of g.H.Disk.told g.H.Disk.may_leave g.H.Disk.faults g.H.Disk.above) (sink_by g.K.Sink.written g.K.Sink.faults) in
-    let view = view_of g.H.Disk.told g.H.Disk.may_leave g.H.Disk.faults g.H.Disk.above in
-    let sink = sink_by g.K.Sink.written g.K.Sink.faults in
+    let at = outside_by g.E.Feed g.H.Disk g.K.Sink in
+    let view = view_of g.H.Disk in
+    let sink = sink_by g.K.Sink in
     let serves : Serves c.args.task.now (at c.args.feed.now c.args.host.now c.args.out.now) (at c.run-stop.new.feed c.run-stop.new.host c.end.new.out) c.end.result =
     inl (serves_begun c.args.task.now (at c.args.feed.now c.args.host.now c.args.out.now) (view c.open_daemon.new.host) c.in-Ok.daemon c.run-stop.result
     c.new-session.result c.run-stop.new.self (at c.run-stop.new.feed c.run-stop.new.host c.run-stop.new.out) (sink c.end.new.out) c.end.result c.in-Ok.ensures.ok c.new-session.ensures
@@ -37,9 +37,9 @@ returns-in-Ok g c =
 
 pub returns-in-Err : goal.returns-in-Err
 returns-in-Err g c =
-    let at = outside_by (feed_by g.E.Feed.told g.E.Feed.faults g.E.Feed.has_ended) (view_of g.H.Disk.told g.H.Disk.may_leave g.H.Disk.faults g.H.Disk.above) (sink_by g.K.Sink.written g.K.Sink.faults) in
-    let view = view_of g.H.Disk.told g.H.Disk.may_leave g.H.Disk.faults g.H.Disk.above in
-    let sink = sink_by g.K.Sink.written g.K.Sink.faults in
+    let at = outside_by g.E.Feed g.H.Disk g.K.Sink in
+    let view = view_of g.H.Disk in
+    let sink = sink_by g.K.Sink in
     let serves : Serves c.args.task.now (at c.args.feed.now c.args.host.now c.args.out.now) (at c.args.feed.now c.open_daemon.new.host c.say_fault.new.out) c.say_fault.result =
     inr (unopened c.args.task.now.verbosity (at c.args.feed.now c.args.host.now c.args.out.now) (view c.open_daemon.new.host) c.in-Err.fault (sink c.say_fault.new.out) c.say_fault.result
     c.in-Err.ensures.vain c.in-Err.ensures.cause c.say_fault.ensures) in

@@ -8,5 +8,5 @@ decreases-loop-number g l = length l.arrivals - l.number
 
 abbrev pub invariant-loop-number : goal.invariant-loop-number
 invariant-loop-number g l =
-    let at = scene_by (view_of g.H.Disk.told g.H.Disk.may_leave g.H.Disk.faults g.H.Disk.above) (output_by g.K.Sink.written g.K.Sink.faults) in
+    let at = scene_by g.H.Disk g.K.Sink in
     Rests l.policy.conf.now (at l.daemon l.host l.log l.out) × (l.daemon.turns ≡ l.number) × (length l.arrivals ≤ 100)

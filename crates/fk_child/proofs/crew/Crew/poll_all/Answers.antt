@@ -8,7 +8,7 @@ use Rattle.fk_child.proofs.crew.Crew.poll_all.Goals as goal
 
 pub loop-init : goal.loop-init
 loop-init g c =
-    let on = on_host g.H.Disk.told g.H.Disk.may_leave g.H.Disk.faults g.H.Disk.above in
+    let on = on_host g.H.Disk in
     let crew' : CrewState = record (state_of c.self.inside) { ends = c.clear.new.self.items } in
     let settled = ap (λ (s : CrewState). s.unsettled) c.self.view_is ∙ c.requires.settled in (
       subst (λ (s : CrewState). AtEach (PartlyPolled c.args.moment 0) (on s c.args.host.now) (on crew' c.args.host.now)) c.self.view_is
@@ -20,7 +20,7 @@ loop-init g c =
 
 pub poll_next-requires : goal.poll_next-requires
 poll_next-requires g c =
-    let on = on_host g.H.Disk.told g.H.Disk.may_leave g.H.Disk.faults g.H.Disk.above in
+    let on = on_host g.H.Disk in
     let place = c.requires.stands.0 in
     let at = c.requires.stands.1 in
     let below : c.loop.counter < length (running place.past) =
@@ -29,7 +29,7 @@ poll_next-requires g c =
 
 pub loop-preserved : goal.loop-preserved
 loop-preserved g c =
-    let on = on_host g.H.Disk.told g.H.Disk.may_leave g.H.Disk.faults g.H.Disk.above in (
+    let on = on_host g.H.Disk in (
       λ place at.
           let below : c.loop.counter < length (running place.past) =
           let runs = ap length at.tied.runs in let last = c.loop.invariant.3 in let test = c.loop-test.true in omega arith in
@@ -41,7 +41,7 @@ loop-preserved g c =
 
 pub returns-clause-polls : goal.returns-clause-polls
 returns-clause-polls g c =
-    let on = on_host g.H.Disk.told g.H.Disk.may_leave g.H.Disk.faults g.H.Disk.above in
+    let on = on_host g.H.Disk in
     λ place at.
     let above : length (running place.past) ≤ c.loop.counter =
     let runs = ap length at.tied.runs in let last = c.loop.invariant.3 in let test = c.loop-test.false in omega arith in

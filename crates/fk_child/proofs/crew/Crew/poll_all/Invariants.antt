@@ -6,5 +6,5 @@ use Rattle.fk_child.proofs.crew.Crew.poll_all.Given as goal
 
 abbrev pub invariant-loop : goal.invariant-loop
 invariant-loop g l =
-    let on = on_host g.H.Disk.told g.H.Disk.may_leave g.H.Disk.faults g.H.Disk.above in
+    let on = on_host g.H.Disk in
     AtEach (PartlyPolled l.moment l.counter) (on l.fn.self l.fn.host) (on l.self l.host) × (l.self.owed ≡ l.fn.self.owed) × (l.self.room ≡ l.fn.self.room) × (l.end ≡ length l.fn.self.children)

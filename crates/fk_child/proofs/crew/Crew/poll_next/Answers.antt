@@ -28,7 +28,7 @@ told_last ends' ends purpose end end' a b = a ∙ ap (λ (e : PollEnd). ends ++ 
 
 pub poll-requires : goal.poll-requires
 poll-requires g c =
-    let on = on_host g.H.Disk.told g.H.Disk.may_leave g.H.Disk.faults g.H.Disk.above in
+    let on = on_host g.H.Disk in
     let may = c.requires in
     let first = taken c.self.inside.children.items c.pop_front.new.self.items may.rest may.found c.in-Some.child may.child c.in-Some.ensures.items (ap (λ (s : CrewState). s.children) c.self.view_is ∙ may.stands.queue) in
     let runs = may-poll c.args.moment may.place may.child may.rest may.found c.args.self.now (on c.args.self.now c.args.host.now).host may.stands in
@@ -36,7 +36,7 @@ poll-requires g c =
 
 pub ended-act-requires : goal.ended-act-requires
 ended-act-requires g c =
-    let on = on_host g.H.Disk.told g.H.Disk.may_leave g.H.Disk.faults g.H.Disk.above in
+    let on = on_host g.H.Disk in
     let may = c.requires in
     let first = taken c.self.inside.children.items c.pop_front.new.self.items may.rest may.found c.in-Some.child may.child c.in-Some.ensures.items (ap (λ (s : CrewState). s.children) c.self.view_is ∙ may.stands.queue) in
     let kept = is-kept c.args.moment may.place may.child may.rest may.found c.args.self.now (on c.args.self.now c.args.host.now).host may.stands in
@@ -45,7 +45,7 @@ ended-act-requires g c =
 
 pub keep_end-requires : goal.keep_end-requires
 keep_end-requires g c =
-    let on = on_host g.H.Disk.told g.H.Disk.may_leave g.H.Disk.faults g.H.Disk.above in
+    let on = on_host g.H.Disk in
     let may = c.requires in
     let child0 : Child = record { number = c.child.inside.number; purpose = c.child.inside.purpose } in
     let crew : CrewState = state_of c.self.inside in
@@ -62,7 +62,7 @@ keep_end-requires g c =
 
 pub returns-in-Ok-None-clause-polls : goal.returns-in-Ok-None-clause-polls
 returns-in-Ok-None-clause-polls g c =
-    let on = on_host g.H.Disk.told g.H.Disk.may_leave g.H.Disk.faults g.H.Disk.above in
+    let on = on_host g.H.Disk in
     let crew : CrewState = state_of c.self.inside in
     let crew' : CrewState = record crew { children = c.push_back_reserved.new.self.items } in
     let child0 : Child = record { number = c.child.inside.number; purpose = c.child.inside.purpose } in
@@ -78,7 +78,7 @@ returns-in-Ok-None-clause-polls g c =
 
 pub returns-in-Ok-Some-clause-polls : goal.returns-in-Ok-Some-clause-polls
 returns-in-Ok-Some-clause-polls g c =
-    let on = on_host g.H.Disk.told g.H.Disk.may_leave g.H.Disk.faults g.H.Disk.above in
+    let on = on_host g.H.Disk in
     let crew : CrewState = state_of c.self.inside in
     let crew' : CrewState = record crew { children = c.pop_front.new.self.items; kept = c.ended-act.new.self.kept; ends = c.push_reserved.new.self.items; unsettled = c.keep_end.new.settles.items } in
     let child0 : Child = record { number = c.child.inside.number; purpose = c.child.inside.purpose } in
@@ -100,7 +100,7 @@ returns-in-Ok-Some-clause-polls g c =
 
 pub returns-in-Err-clause-polls : goal.returns-in-Err-clause-polls
 returns-in-Err-clause-polls g c =
-    let on = on_host g.H.Disk.told g.H.Disk.may_leave g.H.Disk.faults g.H.Disk.above in
+    let on = on_host g.H.Disk in
     let crew : CrewState = state_of c.self.inside in
     let crew' : CrewState = record crew { children = c.push_back_reserved-in-Err.new.self.items; ends = c.push_reserved-in-Err.new.self.items } in
     let child0 : Child = record { number = c.child.inside.number; purpose = c.child.inside.purpose } in

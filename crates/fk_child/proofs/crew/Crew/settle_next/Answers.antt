@@ -10,7 +10,7 @@ use Rattle.fk_child.proofs.crew.Crew.settle_next.Goals as goal
 
 pub index_of-index-requires : goal.index_of-index-requires
 index_of-index-requires g c =
-    let on = on_host g.H.Disk.told g.H.Disk.may_leave g.H.Disk.faults g.H.Disk.above in
+    let on = on_host g.H.Disk in
     let place = c.requires.stands.0 in
     let at = c.requires.stands.2 in
     let first = sym (ap (λ (s : CrewState). s.unsettled) c.self.view_is) ∙ c.in-Some.ensures.items in
@@ -32,7 +32,7 @@ settle-requires-clause-same g c =
 
 pub returns-in-Ok-clause-settles : goal.returns-in-Ok-clause-settles
 returns-in-Ok-clause-settles g c =
-    let on = on_host g.H.Disk.told g.H.Disk.may_leave g.H.Disk.faults g.H.Disk.above in
+    let on = on_host g.H.Disk in
     let crew : CrewState = state_of c.self.inside in
     let crew' : CrewState = record crew { owed = c.remove-owed.new.self.items; unsettled = c.pop_front.new.self.items } in
     let old = (on crew c.args.host.now).host in
@@ -47,7 +47,7 @@ returns-in-Ok-clause-settles g c =
 
 pub returns-in-Err-clause-settles : goal.returns-in-Err-clause-settles
 returns-in-Err-clause-settles g c =
-    let on = on_host g.H.Disk.told g.H.Disk.may_leave g.H.Disk.faults g.H.Disk.above in
+    let on = on_host g.H.Disk in
     let crew : CrewState = state_of c.self.inside in
     let crew' : CrewState = record crew { owed = c.put_back.new.owed.items; unsettled = c.pop_front.new.self.items } in
     let old = (on crew c.args.host.now).host in

@@ -9,7 +9,7 @@ use Rattle.fk_child.proofs.crew.Crew.start.Goals as goal
 
 pub push_back_reserved-requires : goal.push_back_reserved-requires
 push_back_reserved-requires g c =
-    let on = on_host g.H.Disk.told g.H.Disk.may_leave g.H.Disk.faults g.H.Disk.above in
+    let on = on_host g.H.Disk in
     let one = one-more c.args.self.now (on c.args.self.now c.args.host.now).host c.requires.stands.0 c.requires.stands.1 c.args.purpose c.requires.may in
     let room = c.self.invariant.children in
     let children = ap (λ (s : CrewState). length s.children) c.self.view_is in
@@ -20,7 +20,7 @@ push_back_reserved-requires g c =
 
 pub returns-in-Ok-clause-starts : goal.returns-in-Ok-clause-starts
 returns-in-Ok-clause-starts g c =
-    let on = on_host g.H.Disk.told g.H.Disk.may_leave g.H.Disk.faults g.H.Disk.above in
+    let on = on_host g.H.Disk in
     let crew' : CrewState = record (state_of c.self.inside) { children = c.push_back_reserved.new.self.items; kept = c.begun.new.self.kept } in
     let may = subst (λ (s : CrewState). list_any (may_begin c.args.purpose) s.kept ≡ true) (sym c.self.view_is) c.requires.may in
     subst (λ (s : CrewState). AtEach (Attempts c.args.purpose c.args.words.now (Ok true)) (on s c.args.host.now) (on crew' c.start.new.self)) c.self.view_is
@@ -31,7 +31,7 @@ returns-in-Ok-clause-starts g c =
 pub returns-in-Err-Failed-clause-starts : goal.returns-in-Err-Failed-clause-starts
 returns-in-Err-Failed-clause-starts g c =
     let told = rw c.in-Err-Failed.field-0-is at c.in-Err-Failed.ensures in
-    let on = on_host g.H.Disk.told g.H.Disk.may_leave g.H.Disk.faults g.H.Disk.above in
+    let on = on_host g.H.Disk in
     let crew' : CrewState = record (state_of c.self.inside) { kept = c.not_begun.new.self.kept } in
     let may = subst (λ (s : CrewState). list_any (may_begin c.args.purpose) s.kept ≡ true) (sym c.self.view_is) c.requires.may in
     subst (λ (s : CrewState). AtEach (Attempts c.args.purpose c.args.words.now (Ok false)) (on s c.args.host.now) (on crew' c.start.new.self)) c.self.view_is
@@ -42,6 +42,6 @@ returns-in-Err-Failed-clause-starts g c =
 pub returns-in-Err-NoMemory-clause-starts : goal.returns-in-Err-NoMemory-clause-starts
 returns-in-Err-NoMemory-clause-starts g c =
     let told = rw c.in-Err-NoMemory.field-0-is at c.in-Err-NoMemory.ensures in
-    let on = on_host g.H.Disk.told g.H.Disk.may_leave g.H.Disk.faults g.H.Disk.above in
+    let on = on_host g.H.Disk in
     λ place at. attempts-none c.args.self.now (on c.args.self.now c.args.host.now).host place at c.args.purpose c.requires.may
     (on c.args.self.now c.start.new.self).host c.args.words.now _ told.disk told.call told.above

@@ -13,7 +13,7 @@ use Rattle.fk_child.proofs.crew.Crew.start_close.Goals as goal
 
 pub unreachable-requires : goal.unreachable-requires
 unreachable-requires g c =
-    let on = on_host g.H.Disk.told g.H.Disk.may_leave g.H.Disk.faults g.H.Disk.above in
+    let on = on_host g.H.Disk in
     let place = c.requires.stands.0 in
     let at = c.requires.stands.2 in
     let tells = subst (λ (s : CrewState). Stands s.kept place.past place.ends (obligations_but [] place.ledger)) (sym c.self.view_is)
@@ -24,7 +24,7 @@ unreachable-requires g c =
 
 pub start-requires-clause-words : goal.start-requires-clause-words
 start-requires-clause-words g c =
-    let on = on_host g.H.Disk.told g.H.Disk.may_leave g.H.Disk.faults g.H.Disk.above in
+    let on = on_host g.H.Disk in
     let place = c.requires.stands.0 in
     let at = c.requires.stands.2 in
     let tells = subst (λ (s : CrewState). Stands s.kept place.past place.ends (obligations_but [] place.ledger)) (sym c.self.view_is)
@@ -35,7 +35,7 @@ start-requires-clause-words g c =
 
 pub start-requires-clause-may : goal.start-requires-clause-may
 start-requires-clause-may g c =
-    let on = on_host g.H.Disk.told g.H.Disk.may_leave g.H.Disk.faults g.H.Disk.above in
+    let on = on_host g.H.Disk in
     let place = c.requires.stands.0 in
     let at = c.requires.stands.2 in
     let tells = subst (λ (s : CrewState). Stands s.kept place.past place.ends (obligations_but [] place.ledger)) (sym c.self.view_is)
@@ -45,7 +45,7 @@ start-requires-clause-may g c =
 
 pub returns-in_err-begun-clause-starts : goal.returns-in_err-begun-clause-starts
 returns-in_err-begun-clause-starts g c =
-    let on = on_host g.H.Disk.told g.H.Disk.may_leave g.H.Disk.faults g.H.Disk.above in
+    let on = on_host g.H.Disk in
     let crew : CrewState = state_of c.self.inside in
     let mid : CrewState = record crew { kept = c.due.new.self.kept } in
     let host = (on crew c.args.host.now).host in
@@ -62,7 +62,7 @@ returns-in_err-begun-clause-starts g c =
 
 pub returns-clause-starts : goal.returns-clause-starts
 returns-clause-starts g c =
-    let on = on_host g.H.Disk.told g.H.Disk.may_leave g.H.Disk.faults g.H.Disk.above in
+    let on = on_host g.H.Disk in
     let crew : CrewState = state_of c.self.inside in
     let mid : CrewState = record crew { kept = c.due.new.self.kept } in
     let host = (on crew c.args.host.now).host in

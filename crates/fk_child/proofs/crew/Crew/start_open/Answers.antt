@@ -11,14 +11,14 @@ use Rattle.fk_child.proofs.crew.Crew.start_open.Goals as goal
 
 pub opened-requires-clause-unknown : goal.opened-requires-clause-unknown
 opened-requires-clause-unknown g c =
-    let on = on_host g.H.Disk.told g.H.Disk.may_leave g.H.Disk.faults g.H.Disk.above in
+    let on = on_host g.H.Disk in
     let at = c.requires.awaits in
     let unknown = unknown-next c.args.owed c.args.due at.0 at.1 c.args.self.now (on c.args.self.now c.args.host.now).host at.2 in
     rw c.id-id.ensures (subst (λ (s : CrewState). is_kept c.args.owed s.kept ≡ false) (sym c.self.view_is) unknown)
 
 pub start-requires-clause-stands : goal.start-requires-clause-stands
 start-requires-clause-stands g c =
-    let on = on_host g.H.Disk.told g.H.Disk.may_leave g.H.Disk.faults g.H.Disk.above in
+    let on = on_host g.H.Disk in
     let crew : CrewState = state_of c.self.inside in
     let crew' : CrewState = record crew { owed = c.push_reserved.new.self.items; kept = c.opened.new.self.kept; room = c.self.inside.room - 1 } in
     let host = (on crew c.args.host.now).host in
@@ -33,7 +33,7 @@ start-requires-clause-stands g c =
 
 pub returns-clause-starts : goal.returns-clause-starts
 returns-clause-starts g c =
-    let on = on_host g.H.Disk.told g.H.Disk.may_leave g.H.Disk.faults g.H.Disk.above in
+    let on = on_host g.H.Disk in
     let crew : CrewState = state_of c.self.inside in
     let crew' : CrewState = record crew { owed = c.push_reserved.new.self.items; kept = c.opened.new.self.kept; room = c.self.inside.room - 1 } in
     let host = (on crew c.args.host.now).host in

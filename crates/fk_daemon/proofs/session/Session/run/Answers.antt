@@ -10,16 +10,16 @@ use Rattle.fk_daemon.proofs.session.Session.run.Goals as goal
 
 pub returns-in-Err : goal.returns-in-Err
 returns-in-Err g c = λ ledger begins.
-    let at = standing_by (outside_by (feed_by g.E.Feed.told g.E.Feed.faults g.E.Feed.has_ended) (view_of g.H.Disk.told g.H.Disk.may_leave g.H.Disk.faults g.H.Disk.above) (sink_by g.K.Sink.written g.K.Sink.faults)) in
-    let feed = feed_by g.E.Feed.told g.E.Feed.faults g.E.Feed.has_ended in
+    let at = standing_by g.E.Feed g.H.Disk g.K.Sink in
+    let feed = feed_by g.E.Feed in
     finish-unopened c.args.task.now ledger (at c.args.self.now c.args.feed.now c.args.host.now c.args.out.now) (feed c.open.new.self) c.requires.limits begins
     c.in-Err.ensures.kept c.in-Err.ensures.cause (c.no_lines_log_nothing.ensures _)
 
 pub loop-buffer-init : goal.loop-buffer-init
 loop-buffer-init g c = λ ledger begins.
-    let at = standing_by (outside_by (feed_by g.E.Feed.told g.E.Feed.faults g.E.Feed.has_ended) (view_of g.H.Disk.told g.H.Disk.may_leave g.H.Disk.faults g.H.Disk.above) (sink_by g.K.Sink.written g.K.Sink.faults)) in
-    let feed = feed_by g.E.Feed.told g.E.Feed.faults g.E.Feed.has_ended in
-    let sink = sink_by g.K.Sink.written g.K.Sink.faults in (
+    let at = standing_by g.E.Feed g.H.Disk g.K.Sink in
+    let feed = feed_by g.E.Feed in
+    let sink = sink_by g.K.Sink in (
       [],
       going-first c.args.task.now ledger (at c.args.self.now c.args.feed.now c.args.host.now c.args.out.now) c.add.new.self (feed c.open.new.self) (sink c.add.new.out) c.live-live.result begins
           c.in_default.ensures.ok c.live-live.ensures c.add.ensures,
@@ -28,14 +28,14 @@ loop-buffer-init g c = λ ledger begins.
 
 pub serve_next-requires : goal.serve_next-requires
 serve_next-requires g c =
-    let at = standing_by (outside_by (feed_by g.E.Feed.told g.E.Feed.faults g.E.Feed.has_ended) (view_of g.H.Disk.told g.H.Disk.may_leave g.H.Disk.faults g.H.Disk.above) (sink_by g.K.Sink.written g.K.Sink.faults)) in
+    let at = standing_by g.E.Feed g.H.Disk g.K.Sink in
     let going = c.loop-buffer.invariant c.requires.begins.0 c.requires.begins.1 in
     may-serve c.args.task.now c.requires.begins.0 going.0 (at c.args.self.now c.args.feed.now c.args.host.now c.args.out.now) (at c.loop-buffer.self c.loop-buffer.feed c.loop-buffer.host c.loop-buffer.out)
     c.requires.limits going.1 (sym c.is_over.ensures ∙ c.loop-buffer-test.true)
 
 pub returns-in-Some : goal.returns-in-Some
 returns-in-Some g c = λ ledger begins.
-    let at = standing_by (outside_by (feed_by g.E.Feed.told g.E.Feed.faults g.E.Feed.has_ended) (view_of g.H.Disk.told g.H.Disk.may_leave g.H.Disk.faults g.H.Disk.above) (sink_by g.K.Sink.written g.K.Sink.faults)) in
+    let at = standing_by g.E.Feed g.H.Disk g.K.Sink in
     let going = c.loop-buffer.invariant ledger begins in
     round-stops c.args.task.now ledger going.0 (at c.args.self.now c.args.feed.now c.args.host.now c.args.out.now) (at c.loop-buffer.self c.loop-buffer.feed c.loop-buffer.host c.loop-buffer.out)
     (at c.serve_next.new.self c.serve_next.new.feed c.serve_next.new.host c.serve_next.new.out) c.in-Some.stop going.1 going.2
@@ -44,7 +44,7 @@ returns-in-Some g c = λ ledger begins.
 
 pub loop-buffer-preserved : goal.loop-buffer-preserved
 loop-buffer-preserved g c = λ ledger begins.
-    let at = standing_by (outside_by (feed_by g.E.Feed.told g.E.Feed.faults g.E.Feed.has_ended) (view_of g.H.Disk.told g.H.Disk.may_leave g.H.Disk.faults g.H.Disk.above) (sink_by g.K.Sink.written g.K.Sink.faults)) in
+    let at = standing_by g.E.Feed g.H.Disk g.K.Sink in
     let going = c.loop-buffer.invariant ledger begins in
     round-goes_on c.args.task.now ledger going.0 (at c.args.self.now c.args.feed.now c.args.host.now c.args.out.now) (at c.loop-buffer.self c.loop-buffer.feed c.loop-buffer.host c.loop-buffer.out)
     (at c.serve_next.new.self c.serve_next.new.feed c.serve_next.new.host c.serve_next.new.out) going.1 going.2
@@ -53,7 +53,7 @@ loop-buffer-preserved g c = λ ledger begins.
 
 pub returns : goal.returns
 returns g c = λ ledger begins.
-    let at = standing_by (outside_by (feed_by g.E.Feed.told g.E.Feed.faults g.E.Feed.has_ended) (view_of g.H.Disk.told g.H.Disk.may_leave g.H.Disk.faults g.H.Disk.above) (sink_by g.K.Sink.written g.K.Sink.faults)) in
+    let at = standing_by g.E.Feed g.H.Disk g.K.Sink in
     let going = c.loop-buffer.invariant ledger begins in
     finish-limit c.args.task.now ledger going.0 (at c.args.self.now c.args.feed.now c.args.host.now c.args.out.now) (at c.loop-buffer.self c.loop-buffer.feed c.loop-buffer.host c.loop-buffer.out) going.1 going.2
     (limit-reached c.args.task.now.limits going.0 (over-behind c.args.task.now ledger going.0 (at c.args.self.now c.args.feed.now c.args.host.now c.args.out.now) (at c.loop-buffer.self c.loop-buffer.feed c.loop-buffer.host c.loop-buffer.out) true going.1 (sym c.is_over.ensures ∙ c.loop-buffer-test.false)))

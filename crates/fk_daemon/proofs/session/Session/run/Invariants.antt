@@ -11,7 +11,7 @@ use Rattle.fk_daemon.proofs.session.Session.run.Given as goal
 
 abbrev pub invariant-loop-buffer : goal.invariant-loop-buffer
 invariant-loop-buffer g l =
-    let at = standing_by (outside_by (feed_by g.E.Feed.told g.E.Feed.faults g.E.Feed.has_ended) (view_of g.H.Disk.told g.H.Disk.may_leave g.H.Disk.faults g.H.Disk.above) (sink_by g.K.Sink.written g.K.Sink.faults)) in
+    let at = standing_by g.E.Feed g.H.Disk g.K.Sink in
     (ledger : List Change) → Begins l.task ledger (at l.fn.self l.fn.feed l.fn.host l.fn.out)
     → (turns : List TakenTurn) × Going l.task ledger turns (at l.fn.self l.fn.feed l.fn.host l.fn.out) (at l.self l.feed l.host l.out)
     × (g.E.Feed.faults l.feed ≡ g.E.Feed.faults l.fn.feed)

@@ -8,7 +8,7 @@ use Rattle.fk_trial.proofs.session.Session.serve_lines.Given as goal
 
 abbrev pub invariant-loop-stop : goal.invariant-loop-stop
 invariant-loop-stop g l =
-    let at = standing_by (streams_by (source_by g.I.Source.left g.I.Source.faults) (sink_by g.K.Sink.written g.K.Sink.faults)) in
+    let at = standing_by g.I.Source g.K.Sink in
     (start : Standing) (turns : List TakenTurn) → Going l.task.policy turns start (at l.fn.self l.fn.input l.fn.out)
     → (later : List TakenTurn) × Going l.task.policy later start (at l.self l.input l.out)
 

@@ -16,7 +16,7 @@ serve-requires-clause-rests g c = (c.requires.place, c.requires.rests (output c.
 
 pub returns-in-Ok : goal.returns-in-Ok
 returns-in-Ok g c = λ place rests.
-    let sink = sink_by g.K.Sink.written g.K.Sink.faults in
+    let sink = sink_by g.K.Sink in
     let law = c.unscripted_children_end_well.ensures in
     let old : Session = c.args.self.now in
     let mid : Session = record old { daemon = c.serve.new.self; host = c.serve.new.host; log = c.serve.new.log } in
@@ -30,7 +30,7 @@ returns-in-Ok g c = λ place rests.
 
 pub returns : goal.returns
 returns g c = λ place rests.
-    let sink = sink_by g.K.Sink.written g.K.Sink.faults in
+    let sink = sink_by g.K.Sink in
     let old : Session = c.args.self.now in
     let mid : Session = record old { daemon = c.serve.new.self; host = c.serve.new.host; log = c.serve.new.log } in
     let stops = unprinted-line c.args.policy.now (turn_of c.in-Some.arrival) place c.serve.result old mid c.new-page.result c.serve.new.out (sink c.args.out.now)

@@ -12,8 +12,8 @@ use Rattle.fk_turn.proofs.daemon.Daemon.answer.Goals as goal
 
 pub returns-in-Quiet : goal.returns-in-Quiet
 returns-in-Quiet g c =
-    let view = view_of g.H.Disk.told g.H.Disk.may_leave g.H.Disk.faults g.H.Disk.above in
-    let o0 : Output = output_by g.K.Sink.written g.K.Sink.faults c.args.log.now c.args.out.now in
+    let view = view_of g.H.Disk in
+    let o0 : Output = output_by g.K.Sink c.args.log.now c.args.out.now in
     let s : Scene = scene c.args.self.now (view c.args.host.now) o0 in
     λ place rest.
     subst (λ (t : FeedTurn). AnswersWhole c.args.policy.now place t s s)
@@ -22,8 +22,8 @@ returns-in-Quiet g c =
 
 pub returns-in-Datagram : goal.returns-in-Datagram
 returns-in-Datagram g c =
-    let view = view_of g.H.Disk.told g.H.Disk.may_leave g.H.Disk.faults g.H.Disk.above in
-    let out = output_by g.K.Sink.written g.K.Sink.faults in
+    let view = view_of g.H.Disk in
+    let out = output_by g.K.Sink in
     let old : Scene = scene c.args.self.now (view c.args.host.now) (out c.args.log.now c.args.out.now) in
     let new : Scene = scene c.answer_datagram.new.self (view c.answer_datagram.new.host) (out c.answer_datagram.new.log c.answer_datagram.new.out) in
     λ place rest.

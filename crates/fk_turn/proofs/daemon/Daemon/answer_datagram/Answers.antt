@@ -22,12 +22,12 @@ answered given = Ok given
 
 pub returns-in_err-why : goal.returns-in_err-why
 returns-in_err-why g c =
-    let view = view_of g.H.Disk.told g.H.Disk.may_leave g.H.Disk.faults g.H.Disk.above in
-    let out = output_by g.K.Sink.written g.K.Sink.faults in
+    let view = view_of g.H.Disk in
+    let out = output_by g.K.Sink in
     let o0 : Output = out c.args.log.now c.args.out.now in
     subst
-    (λ (d : DaemonState). (place : Place) → AtRest c.args.policy.now.conf.now (scene_by view out d c.args.host.now c.args.log.now c.args.out.now) place
-    → Answers c.args.policy.now place (datagram_turn c.args.moment c.args.source c.args.bytes.now) (scene_by view out d c.args.host.now c.args.log.now c.args.out.now) (scene_by view out d c.args.host.now c.args.log.now c.args.out.now) c.from_residual.result)
+    (λ (d : DaemonState). (place : Place) → AtRest c.args.policy.now.conf.now (scene_by g.H.Disk g.K.Sink d c.args.host.now c.args.log.now c.args.out.now) place
+    → Answers c.args.policy.now place (datagram_turn c.args.moment c.args.source c.args.bytes.now) (scene_by g.H.Disk g.K.Sink d c.args.host.now c.args.log.now c.args.out.now) (scene_by g.H.Disk g.K.Sink d c.args.host.now c.args.log.now c.args.out.now) c.from_residual.result)
     c.self.view_is
     (λ place rest.
     let d : DaemonState = the_view c.self.inside in
@@ -38,13 +38,13 @@ returns-in_err-why g c =
 
 pub returns-in-Refused : goal.returns-in-Refused
 returns-in-Refused g c =
-    let view = view_of g.H.Disk.told g.H.Disk.may_leave g.H.Disk.faults g.H.Disk.above in
-    let out = output_by g.K.Sink.written g.K.Sink.faults in
+    let view = view_of g.H.Disk in
+    let out = output_by g.K.Sink in
     let o0 : Output = out c.args.log.now c.args.out.now in
     let o1 : Output = out c.add.new.self c.add.new.out in
     subst
-    (λ (d : DaemonState). (place : Place) → AtRest c.args.policy.now.conf.now (scene_by view out d c.args.host.now c.args.log.now c.args.out.now) place
-    → AnswersWhole c.args.policy.now place (datagram_turn c.args.moment c.args.source c.args.bytes.now) (scene_by view out d c.args.host.now c.args.log.now c.args.out.now) (scene_by view out d c.args.host.now c.add.new.self c.add.new.out))
+    (λ (d : DaemonState). (place : Place) → AtRest c.args.policy.now.conf.now (scene_by g.H.Disk g.K.Sink d c.args.host.now c.args.log.now c.args.out.now) place
+    → AnswersWhole c.args.policy.now place (datagram_turn c.args.moment c.args.source c.args.bytes.now) (scene_by g.H.Disk g.K.Sink d c.args.host.now c.args.log.now c.args.out.now) (scene_by g.H.Disk g.K.Sink d c.args.host.now c.add.new.self c.add.new.out))
     c.self.view_is
     (λ place rest.
     let d : DaemonState = the_view c.self.inside in
@@ -60,8 +60,8 @@ prepare-requires g c = (c.in_ok-why.ensures.granted c.in-Granted.grant (ap answe
 
 pub returns-in_err-draft-in-Granted : goal.returns-in_err-draft-in-Granted
 returns-in_err-draft-in-Granted g c =
-    let view = view_of g.H.Disk.told g.H.Disk.may_leave g.H.Disk.faults g.H.Disk.above in
-    let out = output_by g.K.Sink.written g.K.Sink.faults in
+    let view = view_of g.H.Disk in
+    let out = output_by g.K.Sink in
     let o0 : Output = out c.args.log.now c.args.out.now in
     let h0 : View = view c.args.host.now in
     λ place rest.
@@ -74,8 +74,8 @@ returns-in_err-draft-in-Granted g c =
 
 pub open-requires-clause-rests : goal.open-requires-clause-rests
 open-requires-clause-rests g c =
-    let view = view_of g.H.Disk.told g.H.Disk.may_leave g.H.Disk.faults g.H.Disk.above in
-    let out = output_by g.K.Sink.written g.K.Sink.faults in (
+    let view = view_of g.H.Disk in
+    let out = output_by g.K.Sink in (
       c.args.policy.now.conf.now,
       (
         c.requires.0,
@@ -97,8 +97,8 @@ open-requires-clause-next g c =
 
 pub returns-in_ok-draft-in-Granted : goal.returns-in_ok-draft-in-Granted
 returns-in_ok-draft-in-Granted g c =
-    let view = view_of g.H.Disk.told g.H.Disk.may_leave g.H.Disk.faults g.H.Disk.above in
-    let out = output_by g.K.Sink.written g.K.Sink.faults in
+    let view = view_of g.H.Disk in
+    let out = output_by g.K.Sink in
     let o0 : Output = out c.args.log.now c.args.out.now in
     let h0 : View = view c.args.host.now in
     let draft : IsDraftOf c.args.policy.now c.args.self.now.book.changes c.args.moment c.args.bytes.now c.in-Granted.grant c.in_ok-draft-in-Granted.draft = c.in_ok-draft-in-Granted.ensures.draft in

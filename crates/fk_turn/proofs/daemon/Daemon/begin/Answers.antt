@@ -12,23 +12,23 @@ use Rattle.fk_turn.proofs.daemon.Daemon.begin.Goals as goal
 
 pub poll_all-requires-clause-stands : goal.poll_all-requires-clause-stands
 poll_all-requires-clause-stands g c =
-    let view = view_of g.H.Disk.told g.H.Disk.may_leave g.H.Disk.faults g.H.Disk.above in
-    let out = output_by g.K.Sink.written g.K.Sink.faults in
-    let rests : RestsSomehow (scene_by view out (the_view c.self.inside) c.args.host.now c.args.log.now c.args.out.now) =
-    subst (λ (d : DaemonState). RestsSomehow (scene_by view out d c.args.host.now c.args.log.now c.args.out.now)) (sym c.self.view_is) c.requires.rests in
+    let view = view_of g.H.Disk in
+    let out = output_by g.K.Sink in
+    let rests : RestsSomehow (scene_by g.H.Disk g.K.Sink (the_view c.self.inside) c.args.host.now c.args.log.now c.args.out.now) =
+    subst (λ (d : DaemonState). RestsSomehow (scene_by g.H.Disk g.K.Sink d c.args.host.now c.args.log.now c.args.out.now)) (sym c.self.view_is) c.requires.rests in
     let marks = c.turn.ensures.marks rests.1.0 rests.1.1.stands.stands in
     (behind 0 rests.1.0 (marks.item ∷ []), (marks.goes 0).stands)
 
 pub returns : goal.returns
 returns g c =
-    let view = view_of g.H.Disk.told g.H.Disk.may_leave g.H.Disk.faults g.H.Disk.above in
-    let out = output_by g.K.Sink.written g.K.Sink.faults in
+    let view = view_of g.H.Disk in
+    let out = output_by g.K.Sink in
     let ends : Logs (map (end_line c.args.moment) c.poll_all.new.self.ends) (out c.add.new.self c.add.new.out) (out c.tell_ends.new.log c.tell_ends.new.out) =
     subst (λ (xs : List EndItem). Logs (map (end_line c.args.moment) xs) (out c.add.new.self c.add.new.out) (out c.tell_ends.new.log c.tell_ends.new.out)) c.ends.ensures c.tell_ends.ensures in
     let new : Scene = scene (record { book = c.self.inside.ledger; crew = c.poll_all.new.self; turns = c.self.inside.turns }) (view c.poll_all.new.host) (out c.tell_ends.new.log c.tell_ends.new.out) in
     subst
-    (λ (d : DaemonState). (conf : Conf) (place : Place) → AtRest conf (scene_by view out d c.args.host.now c.args.log.now c.args.out.now) place
-    → BeginsTurn conf c.args.moment place (scene_by view out d c.args.host.now c.args.log.now c.args.out.now) new)
+    (λ (d : DaemonState). (conf : Conf) (place : Place) → AtRest conf (scene_by g.H.Disk g.K.Sink d c.args.host.now c.args.log.now c.args.out.now) place
+    → BeginsTurn conf c.args.moment place (scene_by g.H.Disk g.K.Sink d c.args.host.now c.args.log.now c.args.out.now) new)
     c.self.view_is
     (λ conf place rest.
     let marks = c.turn.ensures.marks place rest.stands.stands in

@@ -17,8 +17,8 @@ use Rattle.fk_turn.proofs.daemon.Daemon.close.Goals as goal
 
 pub loop-tried-init : goal.loop-tried-init
 loop-tried-init g c =
-    let view = view_of g.H.Disk.told g.H.Disk.may_leave g.H.Disk.faults g.H.Disk.above in
-    let out = output_by g.K.Sink.written g.K.Sink.faults in
+    let view = view_of g.H.Disk in
+    let out = output_by g.K.Sink in
     record {
       rests = c.requires;
       front = λ conf place rest.
@@ -32,16 +32,16 @@ start_close-requires-clause-settled g c =
 
 pub start_close-requires-clause-stands : goal.start_close-requires-clause-stands
 start_close-requires-clause-stands g c =
-    let view = view_of g.H.Disk.told g.H.Disk.may_leave g.H.Disk.faults g.H.Disk.above in
-    let out = output_by g.K.Sink.written g.K.Sink.faults in
+    let view = view_of g.H.Disk in
+    let out = output_by g.K.Sink in
     let rests : RestsSomehow (scene (the_view c.self.inside) (view c.loop-tried.host) (out c.loop-tried.log c.loop-tried.out)) =
     subst (λ (d : DaemonState). RestsSomehow (scene d (view c.loop-tried.host) (out c.loop-tried.log c.loop-tried.out))) (sym c.self.view_is) (closing-rests _ _ _ c.loop-tried.invariant) in
     (rests.1.0, sym rests.1.1.stands.changes, rests.1.1.stands.stands)
 
 pub returns-in_err-tried : goal.returns-in_err-tried
 returns-in_err-tried g c =
-    let view = view_of g.H.Disk.told g.H.Disk.may_leave g.H.Disk.faults g.H.Disk.above in
-    let out = output_by g.K.Sink.written g.K.Sink.faults in
+    let view = view_of g.H.Disk in
+    let out = output_by g.K.Sink in
     let s0 : Scene = scene c.args.self.now (view c.args.host.now) (out c.args.log.now c.args.out.now) in
     let h1 : View = view c.loop-tried.host in
     let h2 : View = view c.start_close.new.host in
@@ -57,8 +57,8 @@ returns-in_err-tried g c =
 
 pub loop-tried-smaller : goal.loop-tried-smaller
 loop-tried-smaller g c =
-    let view = view_of g.H.Disk.told g.H.Disk.may_leave g.H.Disk.faults g.H.Disk.above in
-    let out = output_by g.K.Sink.written g.K.Sink.faults in
+    let view = view_of g.H.Disk in
+    let out = output_by g.K.Sink in
     let s0 : Scene = scene c.args.self.now (view c.args.host.now) (out c.args.log.now c.args.out.now) in
     let h1 : View = view c.loop-tried.host in
     let h2 : View = view c.start_close.new.host in
@@ -73,8 +73,8 @@ loop-tried-smaller g c =
 
 pub loop-tried-preserved : goal.loop-tried-preserved
 loop-tried-preserved g c =
-    let view = view_of g.H.Disk.told g.H.Disk.may_leave g.H.Disk.faults g.H.Disk.above in
-    let out = output_by g.K.Sink.written g.K.Sink.faults in
+    let view = view_of g.H.Disk in
+    let out = output_by g.K.Sink in
     let s0 : Scene = scene c.args.self.now (view c.args.host.now) (out c.args.log.now c.args.out.now) in
     let h1 : View = view c.loop-tried.host in
     let h2 : View = view c.start_close.new.host in
@@ -88,8 +88,8 @@ loop-tried-preserved g c =
 
 pub returns : goal.returns
 returns g c =
-    let view = view_of g.H.Disk.told g.H.Disk.may_leave g.H.Disk.faults g.H.Disk.above in
-    let out = output_by g.K.Sink.written g.K.Sink.faults in
+    let view = view_of g.H.Disk in
+    let out = output_by g.K.Sink in
     let s0 : Scene = scene c.args.self.now (view c.args.host.now) (out c.args.log.now c.args.out.now) in
     let h1 : View = view c.loop-tried.host in
     let h2 : View = view c.start_close.new.host in

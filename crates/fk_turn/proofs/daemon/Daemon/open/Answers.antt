@@ -30,19 +30,19 @@ errs e = Err e
 
 pub returns-in-Err-Full : goal.returns-in-Err-Full
 returns-in-Err-Full g c =
-    let view = view_of g.H.Disk.told g.H.Disk.may_leave g.H.Disk.faults g.H.Disk.above in
-    let out = output_by g.K.Sink.written g.K.Sink.faults in
+    let view = view_of g.H.Disk in
+    let out = output_by g.K.Sink in
     let full_is : Err c.in-Err-Full.field-0 ≡ Err Fault.Full = ap errs c.in-Err-Full.field-0-is in
     let same = c.in-Err-Full.ensures.nothing full_is in
     let full = c.in-Err-Full.ensures.full.0 full_is in
     let d : DaemonState = the_view c.self.inside in
-    let old : Scene = scene_by view out d c.args.host.now c.args.log.now c.args.out.now in
+    let old : Scene = scene_by g.H.Disk g.K.Sink d c.args.host.now c.args.log.now c.args.out.now in
     let o1 : Output = out c.add.new.self c.add.new.out in
     let new : Scene = scene (record { book = c.record.new.self; crew = d.crew; turns = d.turns }) (view c.record.new.disk) o1 in
     subst
-    (λ (s : DaemonState). (policy : Policy) (place : Place) (datagram : List ℕ) (grant : Grant) → AtRest policy.conf.now (scene_by view out s c.args.host.now c.args.log.now c.args.out.now) place
+    (λ (s : DaemonState). (policy : Policy) (place : Place) (datagram : List ℕ) (grant : Grant) → AtRest policy.conf.now (scene_by g.H.Disk g.K.Sink s c.args.host.now c.args.log.now c.args.out.now) place
     → IsGrantedBy policy place.ledger c.args.moment c.args.source datagram grant → IsDraftOf policy place.ledger c.args.moment datagram grant c.args.draft → c.args.stanza ≡ grant.stanza
-    → AnswersWhole policy place (datagram_turn c.args.moment c.args.source datagram) (scene_by view out s c.args.host.now c.args.log.now c.args.out.now) new)
+    → AnswersWhole policy place (datagram_turn c.args.moment c.args.source datagram) (scene_by g.H.Disk g.K.Sink s c.args.host.now c.args.log.now c.args.out.now) new)
     c.self.view_is
     (λ policy place datagram grant rest granted draft stanza.
     let h0 : View = view c.args.host.now in
@@ -55,15 +55,15 @@ returns-in-Err-Full g c =
 
 pub returns-in-Err-Disk : goal.returns-in-Err-Disk
 returns-in-Err-Disk g c =
-    let view = view_of g.H.Disk.told g.H.Disk.may_leave g.H.Disk.faults g.H.Disk.above in
-    let out = output_by g.K.Sink.written g.K.Sink.faults in
+    let view = view_of g.H.Disk in
+    let out = output_by g.K.Sink in
     let d : DaemonState = the_view c.self.inside in
     let o0 : Output = out c.args.log.now c.args.out.now in
     let new : Scene = scene (record { book = c.record.new.self; crew = d.crew; turns = d.turns }) (view c.record.new.disk) o0 in
     subst
-    (λ (s : DaemonState). (policy : Policy) (place : Place) (datagram : List ℕ) (grant : Grant) → AtRest policy.conf.now (scene_by view out s c.args.host.now c.args.log.now c.args.out.now) place
+    (λ (s : DaemonState). (policy : Policy) (place : Place) (datagram : List ℕ) (grant : Grant) → AtRest policy.conf.now (scene_by g.H.Disk g.K.Sink s c.args.host.now c.args.log.now c.args.out.now) place
     → IsGrantedBy policy place.ledger c.args.moment c.args.source datagram grant → IsDraftOf policy place.ledger c.args.moment datagram grant c.args.draft → c.args.stanza ≡ grant.stanza
-    → FailsToRecord policy place (datagram_turn c.args.moment c.args.source datagram) (scene_by view out s c.args.host.now c.args.log.now c.args.out.now) new)
+    → FailsToRecord policy place (datagram_turn c.args.moment c.args.source datagram) (scene_by g.H.Disk g.K.Sink s c.args.host.now c.args.log.now c.args.out.now) new)
     c.self.view_is
     (λ policy place datagram grant rest granted draft stanza.
     let h0 : View = view c.args.host.now in
@@ -75,11 +75,11 @@ returns-in-Err-Disk g c =
 
 pub start_open-requires-clause-awaits : goal.start_open-requires-clause-awaits
 start_open-requires-clause-awaits g c =
-    let view = view_of g.H.Disk.told g.H.Disk.may_leave g.H.Disk.faults g.H.Disk.above in
-    let out = output_by g.K.Sink.written g.K.Sink.faults in
+    let view = view_of g.H.Disk in
+    let out = output_by g.K.Sink in
     let d : DaemonState = the_view c.self.inside in
-    let rests : RestsSomehow (scene_by view out d c.args.host.now c.args.log.now c.args.out.now) =
-    subst (λ (s : DaemonState). RestsSomehow (scene_by view out s c.args.host.now c.args.log.now c.args.out.now)) (sym c.self.view_is) c.requires.rests in
+    let rests : RestsSomehow (scene_by g.H.Disk g.K.Sink d c.args.host.now c.args.log.now c.args.out.now) =
+    subst (λ (s : DaemonState). RestsSomehow (scene_by g.H.Disk g.K.Sink s c.args.host.now c.args.log.now c.args.out.now)) (sym c.self.view_is) c.requires.rests in
     let stands = rests.1.1.stands.stands in (
       c.args.draft.item,
       rests.1.0,
@@ -94,16 +94,16 @@ start_open-requires-clause-awaits g c =
 
 pub returns-in_err-begun-in-Ok : goal.returns-in_err-begun-in-Ok
 returns-in_err-begun-in-Ok g c =
-    let view = view_of g.H.Disk.told g.H.Disk.may_leave g.H.Disk.faults g.H.Disk.above in
-    let out = output_by g.K.Sink.written g.K.Sink.faults in
+    let view = view_of g.H.Disk in
+    let out = output_by g.K.Sink in
     let d : DaemonState = the_view c.self.inside in
     let o0 : Output = out c.args.log.now c.args.out.now in
     let o1 : Output = out c.add-in-Ok.new.self c.add-in-Ok.new.out in
     let new : Scene = scene (record { book = c.record.new.self; crew = c.start_open.new.self; turns = d.turns }) (view c.start_open.new.host) o1 in
     subst
-    (λ (s : DaemonState). (policy : Policy) (place : Place) (datagram : List ℕ) (grant : Grant) → AtRest policy.conf.now (scene_by view out s c.args.host.now c.args.log.now c.args.out.now) place
+    (λ (s : DaemonState). (policy : Policy) (place : Place) (datagram : List ℕ) (grant : Grant) → AtRest policy.conf.now (scene_by g.H.Disk g.K.Sink s c.args.host.now c.args.log.now c.args.out.now) place
     → IsGrantedBy policy place.ledger c.args.moment c.args.source datagram grant → IsDraftOf policy place.ledger c.args.moment datagram grant c.args.draft → c.args.stanza ≡ grant.stanza
-    → Answers policy place (datagram_turn c.args.moment c.args.source datagram) (scene_by view out s c.args.host.now c.args.log.now c.args.out.now) new c.from_residual.result)
+    → Answers policy place (datagram_turn c.args.moment c.args.source datagram) (scene_by g.H.Disk g.K.Sink s c.args.host.now c.args.log.now c.args.out.now) new c.from_residual.result)
     c.self.view_is
     (λ policy place datagram grant rest granted draft stanza.
     let h0 : View = view c.args.host.now in
@@ -115,21 +115,21 @@ returns-in_err-begun-in-Ok g c =
     let wants = wants-start policy place c.args.moment c.args.source datagram grant granted c.args.draft.item draft.item d h0 o0 rest c.record.new.self h1 opens
     c.in-Ok.ensures.host.trace c.in-Ok.ensures.host.rest c.in-Ok.ensures.moments c.in-Ok.ensures.cause c.in-Ok.ensures.ok c.args.stanza stanza o1 c.add-in-Ok.ensures
     c.start_open.new.self (view c.start_open.new.host) c.in-Ok.ensures.calls (goes c.args.moment) in
-    wanting policy place (datagram_turn c.args.moment c.args.source datagram) (scene_by view out d c.args.host.now c.args.log.now c.args.out.now) new c.from_residual.result c.from_residual.ensures.1 wants)
+    wanting policy place (datagram_turn c.args.moment c.args.source datagram) (scene_by g.H.Disk g.K.Sink d c.args.host.now c.args.log.now c.args.out.now) new c.from_residual.result c.from_residual.ensures.1 wants)
 
 pub returns : goal.returns
 returns g c =
-    let view = view_of g.H.Disk.told g.H.Disk.may_leave g.H.Disk.faults g.H.Disk.above in
-    let out = output_by g.K.Sink.written g.K.Sink.faults in
+    let view = view_of g.H.Disk in
+    let out = output_by g.K.Sink in
     let d : DaemonState = the_view c.self.inside in
     let o0 : Output = out c.args.log.now c.args.out.now in
     let o1 : Output = out c.add-in-Ok.new.self c.add-in-Ok.new.out in
     let o2 : Output = out c.add-in-Ok-2.new.self c.add-in-Ok-2.new.out in
     let new : Scene = scene (record { book = c.record.new.self; crew = c.start_open.new.self; turns = d.turns }) (view c.start_open.new.host) o2 in
     subst
-    (λ (s : DaemonState). (policy : Policy) (place : Place) (datagram : List ℕ) (grant : Grant) → AtRest policy.conf.now (scene_by view out s c.args.host.now c.args.log.now c.args.out.now) place
+    (λ (s : DaemonState). (policy : Policy) (place : Place) (datagram : List ℕ) (grant : Grant) → AtRest policy.conf.now (scene_by g.H.Disk g.K.Sink s c.args.host.now c.args.log.now c.args.out.now) place
     → IsGrantedBy policy place.ledger c.args.moment c.args.source datagram grant → IsDraftOf policy place.ledger c.args.moment datagram grant c.args.draft → c.args.stanza ≡ grant.stanza
-    → AnswersWhole policy place (datagram_turn c.args.moment c.args.source datagram) (scene_by view out s c.args.host.now c.args.log.now c.args.out.now) new)
+    → AnswersWhole policy place (datagram_turn c.args.moment c.args.source datagram) (scene_by g.H.Disk g.K.Sink s c.args.host.now c.args.log.now c.args.out.now) new)
     c.self.view_is
     (λ policy place datagram grant rest granted draft stanza.
     let h0 : View = view c.args.host.now in

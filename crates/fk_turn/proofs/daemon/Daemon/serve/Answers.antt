@@ -81,10 +81,10 @@ overflow_add-self g c =
 
 pub returns : goal.returns
 returns g c =
-    let view = view_of g.H.Disk.told g.H.Disk.may_leave g.H.Disk.faults g.H.Disk.above in
-    let out = output_by g.K.Sink.written g.K.Sink.faults in
+    let view = view_of g.H.Disk in
+    let out = output_by g.K.Sink in
     let turn : FeedTurn = turn_of c.args.arrival.now in
-    let old : Scene = scene_by view out c.args.self.now c.args.host.now c.args.log.now c.args.out.now in
+    let old : Scene = scene_by g.H.Disk g.K.Sink c.args.self.now c.args.host.now c.args.log.now c.args.out.now in
     record {
       serves = λ place rest.
           let b = c.begin.ensures c.args.policy.now.conf.now place rest in
@@ -93,5 +93,5 @@ returns g c =
           let closes = c.in_ok-close.ensures c.args.policy.now.conf.now (close_place c.args.policy.now place turn _ _ b _ settles _ a)
           (answered-stands c.args.policy.now place turn _ _ b _ settles _ a) in
           let whole = serves-whole c.args.policy.now place turn _ _ b _ settles _ a 0 _ closes.0 refl closes.1 in
-          subst (λ (d : DaemonState). ServesWhole c.args.policy.now place turn old (scene_by view out (record { book = d.book; crew = d.crew; turns = d.turns + 1 }) c.close.new.host c.close.new.log c.close.new.out)) (sym c.self.view_is) whole;
+          subst (λ (d : DaemonState). ServesWhole c.args.policy.now place turn old (scene_by g.H.Disk g.K.Sink (record { book = d.book; crew = d.crew; turns = d.turns + 1 }) c.close.new.host c.close.new.log c.close.new.out)) (sym c.self.view_is) whole;
     }

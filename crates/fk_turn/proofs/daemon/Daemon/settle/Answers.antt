@@ -17,10 +17,10 @@ use Rattle.fk_turn.proofs.daemon.Daemon.settle.Goals as goal
 
 pub loop-id-init : goal.loop-id-init
 loop-id-init g c =
-    let view = view_of g.H.Disk.told g.H.Disk.may_leave g.H.Disk.faults g.H.Disk.above in
-    let out = output_by g.K.Sink.written g.K.Sink.faults in
+    let view = view_of g.H.Disk in
+    let out = output_by g.K.Sink in
     record {
-      stands = subst (λ (d : DaemonState). StandsSomehow (scene_by view out d c.args.host.now c.args.log.now c.args.out.now)) (sym c.self.view_is) c.requires;
+      stands = subst (λ (d : DaemonState). StandsSomehow (scene_by g.H.Disk g.K.Sink d c.args.host.now c.args.log.now c.args.out.now)) (sym c.self.view_is) c.requires;
       front = λ conf place stands.
           settles-none conf c.args.moment place (scene (the_view c.self.inside) (view c.args.host.now) (out c.args.log.now c.args.out.now)) stands
           (adds-none place.ledger (view c.args.host.now) stands.stands.keeps);
@@ -36,16 +36,16 @@ settle_next-requires-clause-stands g c =
 
 pub returns-in_err-id : goal.returns-in_err-id
 returns-in_err-id g c =
-    let view = view_of g.H.Disk.told g.H.Disk.may_leave g.H.Disk.faults g.H.Disk.above in
-    let out = output_by g.K.Sink.written g.K.Sink.faults in
+    let view = view_of g.H.Disk in
+    let out = output_by g.K.Sink in
     let o1 : Output = out c.loop-id.log c.loop-id.out in
     let turns : ℕ = c.loop-id.self-inside.turns in
     let h1 : View = view c.loop-id.host in
     let h2 : View = view c.settle_next.new.host in
     let new : Scene = scene (record { book = c.settle_next.new.ledger; crew = c.settle_next.new.self; turns = turns }) h2 o1 in
     subst
-    (λ (d : DaemonState). (conf : Conf) (place : Place) → DaemonStands conf (scene_by view out d c.args.host.now c.args.log.now c.args.out.now) place
-    → Settles conf c.args.moment place (scene_by view out d c.args.host.now c.args.log.now c.args.out.now) new c.from_residual.result)
+    (λ (d : DaemonState). (conf : Conf) (place : Place) → DaemonStands conf (scene_by g.H.Disk g.K.Sink d c.args.host.now c.args.log.now c.args.out.now) place
+    → Settles conf c.args.moment place (scene_by g.H.Disk g.K.Sink d c.args.host.now c.args.log.now c.args.out.now) new c.from_residual.result)
     c.self.view_is
     (λ conf place stands.
     let s0 : Scene = scene (the_view c.self.inside) (view c.args.host.now) (out c.args.log.now c.args.out.now) in
@@ -56,8 +56,8 @@ returns-in_err-id g c =
 
 pub loop-id-smaller : goal.loop-id-smaller
 loop-id-smaller g c =
-    let view = view_of g.H.Disk.told g.H.Disk.may_leave g.H.Disk.faults g.H.Disk.above in
-    let out = output_by g.K.Sink.written g.K.Sink.faults in
+    let view = view_of g.H.Disk in
+    let out = output_by g.K.Sink in
     let b1 : Book = c.loop-id.self-inside.ledger in
     let b2 : Book = c.settle_next.new.ledger in
     let was : CrewHost = crew_host c.loop-id.self-inside.crew (view c.loop-id.host) in
@@ -67,8 +67,8 @@ loop-id-smaller g c =
 
 pub loop-id-preserved : goal.loop-id-preserved
 loop-id-preserved g c =
-    let view = view_of g.H.Disk.told g.H.Disk.may_leave g.H.Disk.faults g.H.Disk.above in
-    let out = output_by g.K.Sink.written g.K.Sink.faults in
+    let view = view_of g.H.Disk in
+    let out = output_by g.K.Sink in
     let b1 : Book = c.loop-id.self-inside.ledger in
     let b2 : Book = c.settle_next.new.ledger in
     let was : CrewHost = crew_host c.loop-id.self-inside.crew (view c.loop-id.host) in
@@ -79,8 +79,8 @@ loop-id-preserved g c =
 
 pub returns : goal.returns
 returns g c =
-    let view = view_of g.H.Disk.told g.H.Disk.may_leave g.H.Disk.faults g.H.Disk.above in
-    let out = output_by g.K.Sink.written g.K.Sink.faults in
+    let view = view_of g.H.Disk in
+    let out = output_by g.K.Sink in
     let turns : ℕ = c.loop-id.self-inside.turns in
     let o1 : Output = out c.loop-id.log c.loop-id.out in
     let b1 : Book = c.loop-id.self-inside.ledger in
@@ -91,8 +91,8 @@ returns g c =
     let same = c.in_ok-id.ensures.none (ap (λ (o : Option ℕ). let r : Result (Option ℕ) Failed = Ok o in r) none) in
     let new : Scene = scene (record { book = b2; crew = c.settle_next.new.self; turns = turns }) (view c.settle_next.new.host) o1 in
     subst
-    (λ (d : DaemonState). (conf : Conf) (place : Place) → DaemonStands conf (scene_by view out d c.args.host.now c.args.log.now c.args.out.now) place
-    → SettlesWhole conf c.args.moment place (scene_by view out d c.args.host.now c.args.log.now c.args.out.now) new)
+    (λ (d : DaemonState). (conf : Conf) (place : Place) → DaemonStands conf (scene_by g.H.Disk g.K.Sink d c.args.host.now c.args.log.now c.args.out.now) place
+    → SettlesWhole conf c.args.moment place (scene_by g.H.Disk g.K.Sink d c.args.host.now c.args.log.now c.args.out.now) new)
     c.self.view_is
     (λ conf place stands.
     let s0 : Scene = scene (the_view c.self.inside) (view c.args.host.now) (out c.args.log.now c.args.out.now) in
