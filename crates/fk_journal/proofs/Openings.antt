@@ -1,5 +1,5 @@
 -- The moments of an opening: a sync, reads, and where the area is short a write and its sync.
-use Rattle.std.proofs.Common.{◌≡◌, ℕ, ◌<◌, List, [], ◌∷◌, length, take, drop, refl, inl, inr, ap, ◌∙◌, sym, subst, arith, Option, Some, None, IfSome, Result, Ok, Err, IfOk}
+use Rattle.std.proofs.Common.{◌≡◌, ℕ, ◌+◌, ◌<◌, ◌≤◌, List, [], ◌∷◌, length, take, drop, refl, inl, inr, ap, ◌∙◌, sym, subst, arith, Option, Some, None, IfSome, Result, Ok, Err, IfOk}
 use Rattle.std.proofs.lemmas.Bool.{cases_lt}
 use Rattle.std.proofs.lemmas.List.{drop_all, take_all}
 use Rattle.fk_host.specs.declared.disk.Area.TheVariants.{One}
@@ -11,11 +11,12 @@ use Rattle.fk_journal.proofs.Told.{past_then, if_told_map, if_told_then, if_told
 use Rattle.fk_journal.proofs.PutLemmas.{others_put, others_then}
 
 -- calls that left the areas, as an opening that never got behind its sync
-pub opening_left : (a b : ℕ → Areas → Type 0) (x y : Told) → LeavesAreas a b x y → IsOpening a b x y
-opening_left a b x y left = record {
+pub opening_left : (a b : ℕ → Areas → Type 0) (x y : Told) → LeavesAreas a b x y → y.moments ≤ x.moments + 1 → IsOpening a b x y
+opening_left a b x y left few = record {
   past = left.past;
   unsynced = y.moments;
   since = left.later;
+  soon = few;
   within = omega arith;
   first = left.each;
   then = λ k image behind upto here. absurd (omega arith);
@@ -64,6 +65,7 @@ opening_read a b x y read = record {
   past = read.past;
   unsynced = x.moments;
   since = omega arith;
+  soon = omega arith;
   within = read.later;
   first = λ k image after upto here. absurd (omega arith);
   then = λ k image after upto here. inl (read.each k image after upto here).0;
@@ -84,6 +86,7 @@ opening_made a b c x y z read short puts =
       past = past_then x.moments y.moments a b c read.later read.past puts.past;
       unsynced = x.moments;
       since = omega arith;
+      soon = omega arith;
       within = omega (arith, read.later, puts.later);
       first = λ k image after upto here. absurd (omega arith);
       then = λ k image after upto here.
@@ -109,7 +112,7 @@ empty_closed = (0, [], omega arith, record { each = tt; bytes = refl })
 
 -- the same in the form in which the calls' proofs ask for it
 pub moments_left : (s t : Option Told) (a b : ℕ → Areas → Type 0) → IfTold s t (Passes Same Same a b) → IfTold s t (IsOpening a b)
-moments_left s t a b pass = if_told_map s t (Passes Same Same a b) (IsOpening a b) (λ x y p. opening_left a b x y (leaves_once a b x y p)) pass
+moments_left s t a b pass = if_told_map s t (Passes Same Same a b) (IsOpening a b) (λ x y p. opening_left a b x y (leaves_once a b x y p) (omega (arith, p.moments))) pass
 
 pub left_others : (s t : Option Told) (a b : ℕ → Areas → Type 0) → IfTold s t (Passes Same Same a b) → IfTold s t (LeavesOthers a b)
 left_others s t a b pass = if_told_map s t (Passes Same Same a b) (LeavesOthers a b) (λ x y p. others_left a b x y (leaves_once a b x y p)) pass

@@ -50,12 +50,13 @@ pub record LeavesOthers (old new : ℕ → Areas → Type 0) (before after : Tol
   pub each : (k : ℕ) (image : Areas) → before.moments < k → k ≤ after.moments → new k image
       → (from : Areas) × old before.moments from × SameOthers from image
 
--- The moments of an opening. Up to the one before the area's sync has ended well (the last of them all, where it never does),
--- each image is one that stood at entry; from then on each has the entries that a read gave at entry.
+-- The moments of an opening, whose first call syncs the area. Until that call each image is one that stood at entry, and behind
+-- it too where it failed; from then on each has the entries that a read gave at entry.
 pub record IsOpening (old new : ℕ → Areas → Type 0) (before after : Told) : Type 0 where
   pub past : KeepsPast before.moments old new
   pub unsynced : ℕ
   pub since : before.moments ≤ unsynced
+  pub soon : unsynced ≤ before.moments + 1
   pub within : unsynced ≤ after.moments
   pub first : (k : ℕ) (image : Areas) → before.moments < k → k ≤ unsynced → new k image → old before.moments image
   pub then : (k : ℕ) (image : Areas) → unsynced < k → k ≤ after.moments → new k image → SameEntries (selected before.areas) (selected image)

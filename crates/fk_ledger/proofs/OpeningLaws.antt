@@ -24,6 +24,7 @@ opening ledger whole old new x y opens held all = record {
   past = opens.past;
   unsynced = opens.unsynced;
   since = opens.since;
+  soon = opens.soon;
   first = opens.first;
   then = record {
     later = opens.within;

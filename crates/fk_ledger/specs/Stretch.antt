@@ -1,5 +1,5 @@
 -- What a crash at each moment of some calls may leave: a ledger with the first of their changes.
-use Rattle.std.specs.Prelude.{◌≡◌, ℕ, ◌<◌, ◌≤◌, Bool, true, false, List, [], take}
+use Rattle.std.specs.Prelude.{◌≡◌, ℕ, ◌+◌, ◌<◌, ◌≤◌, Bool, true, false, List, [], take}
 use Rattle.fk_trace.specs.declared.change.Change.{Change}
 use Rattle.fk_trace.specs.Ledger.{after}
 use Rattle.fk_host.specs.declared.disk.Disk.{Ghosts as DiskMeaning}
@@ -26,11 +26,12 @@ abbrev pub StretchUntil : {D : Type 0} → DiskMeaning D → ℕ → D → D →
 StretchUntil disk k old new ledger changes = IfTold (disk.told old) (disk.told new) (λ before later. before.moments ≤ k → k ≤ later.moments
     → Stretch ledger changes false (disk.may_leave old) (disk.may_leave new) before (record later { moments = k }))
 
--- The moments of the opening of a ledger. Up to the one before the area's sync has ended well (the last of them all, where it
--- never does), each image is one that stood at entry; from then on the calls are a stretch without changes.
+-- The moments of the opening of a ledger, whose first call syncs the area. Until that call each image is one that stood at entry,
+-- and behind it too where it failed; from then on the calls are a stretch without changes.
 pub record IsLedgerOpening (ledger : List Change) (whole : Bool) (old new : ℕ → Areas → Type 0) (start finish : Told) : Type 0 where
   pub past : KeepsPast start.moments old new
   pub unsynced : ℕ
   pub since : start.moments ≤ unsynced
+  pub soon : unsynced ≤ start.moments + 1
   pub first : (k : ℕ) (image : Areas) → start.moments < k → k ≤ unsynced → new k image → old start.moments image
   pub then : Stretch ledger [] whole new new (record start { moments = unsynced }) finish
