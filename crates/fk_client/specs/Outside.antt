@@ -2,8 +2,12 @@
 use Rattle.std.specs.Prelude.{ℕ, List, Option}
 use Rattle.fk_host.specs.Count.{counted}
 use Rattle.fk_host.specs.Link.{Sendings}
+use Rattle.fk_host.specs.declared.entropy.Entropy.{Ghosts as EntropyMeaning}
+use Rattle.fk_host.specs.declared.files.Files.{Ghosts as FilesMeaning}
 use Rattle.fk_host.specs.declared.files.HeldFile.{HeldFile}
-use Rattle.fk_log.specs.Printing.{SinkView}
+use Rattle.fk_host.specs.declared.link.Link.{Ghosts as LinkMeaning}
+use Rattle.fk_host.specs.declared.stream.Sink.{Ghosts as SinkMeaning}
+use Rattle.fk_log.specs.Printing.{SinkView, sink_by}
 
 pub record FilesView : Type 0 where
   -- what is held, where they tell
@@ -39,6 +43,11 @@ link_by told faults link = record { told = told link; faults = faults link }
 abbrev pub outside_by : {F N L K : Type 0} → (F → FilesView) → (N → EntropyView) → (L → LinkView) → (K → SinkView) → F → N → L → K → Outside
 outside_by files_view entropy_view link_view sink_view files entropy link sink =
     record { files = files_view files; entropy = entropy_view entropy; link = link_view link; sink = sink_view sink }
+
+-- the four together, of the objects by what their traits have them tell
+abbrev pub outside_of : {F N L K : Type 0} → FilesMeaning F → EntropyMeaning N → LinkMeaning L → SinkMeaning K → F → N → L → K → Outside
+outside_of files entropy link sink =
+    outside_by (files_by files.held files.faults) (entropy_by entropy.left entropy.faults) (link_by link.told link.faults) (sink_by sink.written sink.faults)
 
 -- the files refused a read, and count it
 abbrev pub refused : FilesView → FilesView

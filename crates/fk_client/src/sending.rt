@@ -3,7 +3,7 @@ ghost use Rattle.std.specs.Prelude.{◌≡◌, ◌∷◌, ◌++◌, [], MatchRes
 ghost use Rattle.std.specs.List.{flat_map};
 ghost use Rattle.fk_log.specs.Printing.{sink_by};
 ghost use Rattle.fk_client.specs.ClientText.{sent_line};
-ghost use Rattle.fk_client.specs.Outside.{entropy_by, files_by, link_by, outside_by};
+ghost use Rattle.fk_client.specs.Outside.{entropy_by, link_by, outside_of};
 ghost use Rattle.fk_client.specs.Private.{DrawsInVain, DrawsPacket, fault_of};
 ghost use Rattle.fk_client.specs.Running.{RunsSend, SendsPacket};
 
@@ -27,7 +27,7 @@ pub(crate) fn run_send<F: Files, N: Entropy, L: Link, K: Sink>(
     link: &mut L,
     out: &mut K,
 ) -> Status
-    ensures { let at = outside_by (files_by F.held F.faults) (entropy_by N.left N.faults) (link_by L.told L.faults) (sink_by K.written K.faults) in
+    ensures { let at = outside_of F.Files N.Entropy L.Link K.Sink in
         RunsSend words.now moment (at files.old entropy.old link.old out.old) (at files.new entropy.new link.new out.new) result }
 {
     let settings = match settings_by(alloc, words, files) {

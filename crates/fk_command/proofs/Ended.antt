@@ -19,9 +19,10 @@ use Rattle.fk_daemon.specs.Outside.{Outside}
 use Rattle.fk_daemon.proofs.Behind.{order}
 use Rattle.fk_daemon.specs.Serving.{HasStatus, Serves, SaysWhyUnopened}
 use Rattle.fk_conf.specs.ConfErr.{conf_fault}
+use Rattle.fk_conf.specs.FaultNames.{conf_fault_name}
 use Rattle.fk_access.specs.AccessFault.{access_fault}
 use Rattle.fk_command.specs.World.{FilesView, World}
-use Rattle.fk_command.specs.FaultNames.{conf_fault_name, access_fault_name}
+use Rattle.fk_command.specs.FaultNames.{access_fault_name}
 use Rattle.fk_command.specs.Faults.{Fault, fault_status}
 use Rattle.fk_command.specs.Faults.Fault.{WrongWords, FileNotHeld, FileNotRead, WrongFile, DiskFails, DamagedLedger, WantsMemory}
 use Rattle.fk_command.specs.Files.{Names, FailsFile, FailsFiles}

@@ -6,12 +6,13 @@ use Rattle.fk_host.specs.Files.{bytes_of_file}
 use Rattle.fk_base.specs.declared.file.TheConstants.{FILE_LIMIT}
 use Rattle.fk_conf.specs.declared.conf.Conf.{Conf}
 use Rattle.fk_conf.specs.ConfErr.{conf_fault}
+use Rattle.fk_conf.specs.FaultNames.{conf_fault_name}
 use Rattle.fk_conf.specs.ReadsConf.{ReadsConf}
 use Rattle.fk_access.specs.declared.stanza.Stanza.{Stanza}
 use Rattle.fk_access.specs.AccessFault.{access_fault}
 use Rattle.fk_access.specs.ReadsAccess.{ReadsAccess}
 use Rattle.fk_command.specs.World.{FilesView}
-use Rattle.fk_command.specs.FaultNames.{conf_fault_name, access_fault_name}
+use Rattle.fk_command.specs.FaultNames.{access_fault_name}
 use Rattle.fk_command.specs.Faults.{Fault}
 use Rattle.fk_command.specs.Faults.Fault.{FileNotHeld, FileNotRead, WrongFile, WantsMemory}
 

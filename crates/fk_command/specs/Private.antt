@@ -6,19 +6,24 @@ use Rattle.fk_trace.specs.declared.change.Change.{Change}
 use Rattle.fk_trace.specs.declared.change.Change.TheVariants.{Open, Done}
 use Rattle.fk_trace.specs.declared.change.OpenRecord.{OpenRecord}
 use Rattle.fk_trace.specs.Ledger.{opens}
+use Rattle.fk_host.specs.declared.disk.Disk.{Ghosts as DiskMeaning}
+use Rattle.fk_host.specs.declared.feed.Feed.{Ghosts as FeedMeaning}
+use Rattle.fk_host.specs.declared.files.Files.{Ghosts as FilesMeaning}
+use Rattle.fk_host.specs.declared.stream.Sink.{Ghosts as SinkMeaning}
+use Rattle.fk_host.specs.declared.stream.Source.{Ghosts as SourceMeaning}
 use Rattle.fk_log.specs.declared.verbosity.Verbosity.{Verbosity}
 use Rattle.fk_log.specs.Line.{Line}
 use Rattle.fk_log.specs.Line.Line.{ListedLine}
-use Rattle.fk_child.specs.View.{View}
-use Rattle.fk_log.specs.Printing.{SinkView}
+use Rattle.fk_child.specs.View.{View, view_of}
+use Rattle.fk_log.specs.Printing.{SinkView, sink_by}
 use Rattle.fk_daemon.specs.Outside.{FeedView, Outside}
 use Rattle.fk_command.specs.declared.files.FileNames.{FileNames}
 use Rattle.fk_command.specs.declared.refusal.Refusal.{Refusal}
 use Rattle.fk_command.specs.declared.refusal.Refusal.TheVariants as refusal
 use Rattle.fk_trial.specs.declared.task.TrialTask.{TrialTask}
-use Rattle.fk_trial.specs.Streams.{SourceView, Streams}
+use Rattle.fk_trial.specs.Streams.{SourceView, Streams, source_by, streams_by}
 use Rattle.fk_trial.specs.Trial.{Tries}
-use Rattle.fk_command.specs.World.{FilesView, World}
+use Rattle.fk_command.specs.World.{FilesView, World, files_by, outside_of}
 use Rattle.fk_command.specs.Faults.{Fault, Tells}
 use Rattle.fk_command.specs.Faults.Fault.{WrongWords, FileNotHeld, FileNotRead, WrongFile, DiskFails, DamagedLedger, WantsMemory}
 use Rattle.fk_command.specs.Files.{Names, ReadsFiles, FailsFiles}
@@ -39,9 +44,18 @@ names_of names = record { conf = names.conf.now; access = names.access.now }
 abbrev pub served_in : SourceView → FilesView → Outside → World
 served_in input files outside = record { files = files; input = input; outside = outside }
 
+-- the same, of the objects by what their traits have them tell
+abbrev pub served_of : {F E H K : Type 0} → FilesMeaning F → FeedMeaning E → DiskMeaning H → SinkMeaning K → SourceView → F → E → H → K → World
+served_of files feed host sink input = λ f e h k. served_in input (files_by files.held files.faults f) (outside_of feed host sink e h k)
+
 -- a world of these, where a call is handed the host and the output alone
 abbrev pub listed_in : FilesView → FeedView → SourceView → View → SinkView → World
 listed_in files feed input host sink = record { files = files; input = input; outside = record { feed = feed; host = host; sink = sink } }
+
+-- the same, of the two by what their traits have them tell
+abbrev pub listed_of : {H K : Type 0} → DiskMeaning H → SinkMeaning K → FilesView → FeedView → SourceView → H → K → World
+listed_of host sink files feed input =
+    λ h k. listed_in files feed input (view_of host.told host.may_leave host.faults host.above h) (sink_by sink.written sink.faults k)
 
 -- what a trial is handed
 pub record Bench : Type 0 where
@@ -50,6 +64,11 @@ pub record Bench : Type 0 where
 
 abbrev pub bench : FilesView → Streams → Bench
 bench files streams = record { files = files; streams = streams }
+
+-- the same, of the objects by what their traits have them tell
+abbrev pub bench_of : {F I K : Type 0} → FilesMeaning F → SourceMeaning I → SinkMeaning K → F → I → K → Bench
+bench_of files input sink =
+    λ f i k. bench (files_by files.held files.faults f) (streams_by (source_by input.left input.faults) (sink_by sink.written sink.faults) i k)
 
 -- the lines of the input were tried by both files
 pub record TriesFiles (names : Names) (verbosity : Verbosity) (old new : Bench) (answer : Status) : Type 0 where

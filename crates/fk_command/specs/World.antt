@@ -1,10 +1,16 @@
 -- What the objects that a run of the program is handed say of themselves.
 use Rattle.std.specs.Prelude.{◌≡◌, ◌↔◌, ℕ, List, Option}
+use Rattle.fk_host.specs.declared.disk.Disk.{Ghosts as DiskMeaning}
+use Rattle.fk_host.specs.declared.feed.Feed.{Ghosts as FeedMeaning}
+use Rattle.fk_host.specs.declared.files.Files.{Ghosts as FilesMeaning}
 use Rattle.fk_host.specs.declared.files.HeldFile.{HeldFile}
+use Rattle.fk_host.specs.declared.stream.Sink.{Ghosts as SinkMeaning}
+use Rattle.fk_host.specs.declared.stream.Source.{Ghosts as SourceMeaning}
 use Rattle.fk_host.specs.Disk.{Areas}
-use Rattle.fk_child.specs.View.{View}
-use Rattle.fk_daemon.specs.Outside.{Outside}
-use Rattle.fk_trial.specs.Streams.{SourceView, Streams}
+use Rattle.fk_log.specs.Printing.{sink_by}
+use Rattle.fk_child.specs.View.{View, view_of}
+use Rattle.fk_daemon.specs.Outside.{Outside, feed_by, outside_by}
+use Rattle.fk_trial.specs.Streams.{SourceView, Streams, source_by}
 
 pub record FilesView : Type 0 where
   -- what is held, where they tell
@@ -24,6 +30,16 @@ files_by held faults files = record { held = held files; faults = faults files }
 abbrev pub world_by : {F E H I K : Type 0} → (F → FilesView) → (E → H → K → Outside) → (I → SourceView) → F → E → H → I → K → World
 world_by files_view outside input_view files feed host input sink =
     record { files = files_view files; input = input_view input; outside = outside feed host sink }
+
+-- the feed, the host and the output, of the objects by what their traits have them tell
+abbrev pub outside_of : {E H K : Type 0} → FeedMeaning E → DiskMeaning H → SinkMeaning K → E → H → K → Outside
+outside_of feed host sink =
+    outside_by (feed_by feed.told feed.faults feed.has_ended) (view_of host.told host.may_leave host.faults host.above) (sink_by sink.written sink.faults)
+
+-- all together, of the objects by what their traits have them tell
+abbrev pub world_of : {F E H I K : Type 0} → FilesMeaning F → FeedMeaning E → DiskMeaning H → SourceMeaning I → SinkMeaning K → F → E → H → I → K → World
+world_of files feed host input sink =
+    world_by (files_by files.held files.faults) (outside_of feed host sink) (source_by input.left input.faults)
 
 -- the input and the output alone
 abbrev pub streams_of : World → Streams

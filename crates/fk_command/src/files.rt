@@ -5,11 +5,11 @@ ghost use Rattle.fk_command.specs.Files.{FailsFile, FailsFiles, HasAccess, HasCo
 ghost use Rattle.fk_command.specs.Private.{fault_of, names_of};
 ghost use Rattle.fk_command.specs.World.{files_by};
 
-use crate::fault_names::{access_fault_name, conf_fault_name};
+use crate::fault_names::access_fault_name;
 use crate::refusal::Refusal;
 use fk_access::{Access, AccessErr, read_access};
 use fk_base::Bytes;
-use fk_conf::{Conf, ConfErr, read_conf};
+use fk_conf::{Conf, ConfErr, conf_fault_name, read_conf};
 use fk_host::{FileErr, Files};
 use std::alloc::Global;
 

@@ -2,11 +2,10 @@
 ghost use Rattle.std.specs.Prelude.{◌≡◌, ◌∷◌, [], Bool};
 ghost use Rattle.std.specs.List.{list_any};
 ghost use Rattle.fk_log.specs.Writing.{Logs, output};
-ghost use Rattle.fk_child.specs.View.{view_of};
 ghost use Rattle.fk_log.specs.Printing.{Prints, sink_by};
 ghost use Rattle.fk_command.specs.Causes.{FailsByAnswer};
 ghost use Rattle.fk_command.specs.Listing.{Lists, list_text, printed_status};
-ghost use Rattle.fk_command.specs.Private.{listed_in, listed_lines, settles};
+ghost use Rattle.fk_command.specs.Private.{listed_lines, listed_of, settles};
 ghost use Rattle.fk_command.specs.World.{FilesView};
 ghost use Rattle.fk_trial.specs.Streams.{SourceView};
 ghost use Rattle.fk_daemon.specs.Outside.{FeedView};
@@ -21,12 +20,10 @@ use std::alloc::Global;
 
 /// Prints the live records of the ledger that the disk holds. All memory is taken before the first line is written.
 pub(crate) fn list_records<H: Host, K: Sink>(alloc: Global, host: &mut H, out: &mut K) -> Status
-    ensures lists { let view = view_of H.told H.may_leave H.faults H.above in let sink = sink_by K.written K.faults in
-        (files : FilesView) (feed : FeedView) (input : SourceView)
-        → Lists (listed_in files feed input (view host.old) (sink out.old)) (listed_in files feed input (view host.new) (sink out.new)) result }
-    ensures counts { let view = view_of H.told H.may_leave H.faults H.above in let sink = sink_by K.written K.faults in
-        (files : FilesView) (feed : FeedView) (input : SourceView)
-        → FailsByAnswer result (listed_in files feed input (view host.old) (sink out.old)) (listed_in files feed input (view host.new) (sink out.new)) }
+    ensures lists { let at = listed_of H.Disk K.Sink in (files : FilesView) (feed : FeedView) (input : SourceView)
+        → Lists (at files feed input host.old out.old) (at files feed input host.new out.new) result }
+    ensures counts { let at = listed_of H.Disk K.Sink in (files : FilesView) (feed : FeedView) (input : SourceView)
+        → FailsByAnswer result (at files feed input host.old out.old) (at files feed input host.new out.new) }
 {
     match Ledger::view(alloc, host) {
         Ok(changes) => print_live(&changes, out),

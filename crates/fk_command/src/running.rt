@@ -1,12 +1,8 @@
-ghost use Rattle.fk_child.specs.View.{view_of};
-ghost use Rattle.fk_daemon.specs.Outside.{feed_by, outside_by};
-ghost use Rattle.fk_log.specs.Printing.{sink_by};
 ghost use Rattle.fk_command.specs.Causes.{FailsByAnswer};
 ghost use Rattle.fk_conf.specs.DaemonCommands.{IsForDaemon};
 ghost use Rattle.fk_command.specs.Ready.{EndsWell, MeetsNoFault};
 ghost use Rattle.fk_command.specs.Running.{Runs, RunsWords, serving_verbosity, trying_verbosity};
-ghost use Rattle.fk_command.specs.World.{files_by, world_by};
-ghost use Rattle.fk_trial.specs.Streams.{source_by};
+ghost use Rattle.fk_command.specs.World.{world_of};
 ghost use Rattle.std.specs.Prelude.{◌≡◌};
 
 use crate::files::file_names;
@@ -35,17 +31,11 @@ pub fn fwknopd_run<F: Files, E: Feed, H: Host, I: Source, K: Sink>(
     input: &mut I,
     out: &mut K,
 ) -> Status
-    ensures runs { let at = world_by (files_by F.held F.faults)
-        (outside_by (feed_by E.told E.faults E.has_ended) (view_of H.told H.may_leave H.faults H.above) (sink_by K.written K.faults))
-        (source_by I.left I.faults) in
+    ensures runs { let at = world_of F.Files E.Feed H.Disk I.Source K.Sink in
         RunsWords words.now (at files.old feed.old host.old input.old out.old) (at files.new feed.new host.new input.new out.new) result }
-    ensures counts { let at = world_by (files_by F.held F.faults)
-        (outside_by (feed_by E.told E.faults E.has_ended) (view_of H.told H.may_leave H.faults H.above) (sink_by K.written K.faults))
-        (source_by I.left I.faults) in
+    ensures counts { let at = world_of F.Files E.Feed H.Disk I.Source K.Sink in
         FailsByAnswer result (at files.old feed.old host.old input.old out.old) (at files.new feed.new host.new input.new out.new) }
-    ensures complete { let at = world_by (files_by F.held F.faults)
-        (outside_by (feed_by E.told E.faults E.has_ended) (view_of H.told H.may_leave H.faults H.above) (sink_by K.written K.faults))
-        (source_by I.left I.faults) in
+    ensures complete { let at = world_of F.Files E.Feed H.Disk I.Source K.Sink in
         MeetsNoFault words.now (at files.old feed.old host.old input.old out.old) (at files.new feed.new host.new input.new out.new)
         → EndsWell result }
 {
@@ -68,13 +58,9 @@ fn run_command<F: Files, E: Feed, H: Host, I: Source, K: Sink>(
     out: &mut K,
 ) -> Status
     requires { IsForDaemon command.now }
-    ensures runs { let at = world_by (files_by F.held F.faults)
-        (outside_by (feed_by E.told E.faults E.has_ended) (view_of H.told H.may_leave H.faults H.above) (sink_by K.written K.faults))
-        (source_by I.left I.faults) in
+    ensures runs { let at = world_of F.Files E.Feed H.Disk I.Source K.Sink in
         Runs command.now (at files.old feed.old host.old input.old out.old) (at files.new feed.new host.new input.new out.new) result }
-    ensures counts { let at = world_by (files_by F.held F.faults)
-        (outside_by (feed_by E.told E.faults E.has_ended) (view_of H.told H.may_leave H.faults H.above) (sink_by K.written K.faults))
-        (source_by I.left I.faults) in
+    ensures counts { let at = world_of F.Files E.Feed H.Disk I.Source K.Sink in
         FailsByAnswer result (at files.old feed.old host.old input.old out.old) (at files.new feed.new host.new input.new out.new) }
 {
     match command {

@@ -1,13 +1,9 @@
 //! The two files are read and served by.
 ghost use Rattle.std.specs.Prelude.{◌≡◌, ◌⊎◌};
-ghost use Rattle.fk_child.specs.View.{view_of};
 ghost use Rattle.fk_daemon.specs.Account.{AreLimits};
-ghost use Rattle.fk_daemon.specs.Outside.{feed_by, outside_by};
-ghost use Rattle.fk_log.specs.Printing.{sink_by};
 ghost use Rattle.fk_command.specs.Causes.{FailsByAnswer};
-ghost use Rattle.fk_command.specs.Private.{names_of, served_in};
+ghost use Rattle.fk_command.specs.Private.{names_of, served_of};
 ghost use Rattle.fk_command.specs.Running.{RefusesFiles, ServesByFiles};
-ghost use Rattle.fk_command.specs.World.{files_by};
 ghost use Rattle.fk_trial.specs.Streams.{SourceView};
 
 use crate::files::{FileNames, Settings, read_files};
@@ -38,17 +34,13 @@ pub(crate) fn serve_by_files<F: Files, E: Feed, H: Host, K: Sink>(
     out: &mut K,
 ) -> Status
     requires { AreLimits asked.now.limits }
-    ensures serves { let file = files_by F.held F.faults in
-        let at = outside_by (feed_by E.told E.faults E.has_ended) (view_of H.told H.may_leave H.faults H.above) (sink_by K.written K.faults) in
-        (input : SourceView)
+    ensures serves { let at = served_of F.Files E.Feed H.Disk K.Sink in (input : SourceView)
         → ServesByFiles (names_of asked.now.names) asked.now.limits asked.now.verbosity
-        (served_in input (file files.old) (at feed.old host.old out.old)) (served_in input (file files.new) (at feed.new host.new out.new)) result
+        (at input files.old feed.old host.old out.old) (at input files.new feed.new host.new out.new) result
         ⊎ RefusesFiles (names_of asked.now.names)
-        (served_in input (file files.old) (at feed.old host.old out.old)) (served_in input (file files.new) (at feed.new host.new out.new)) result }
-    ensures counts { let file = files_by F.held F.faults in
-        let at = outside_by (feed_by E.told E.faults E.has_ended) (view_of H.told H.may_leave H.faults H.above) (sink_by K.written K.faults) in
-        (input : SourceView) → FailsByAnswer result
-        (served_in input (file files.old) (at feed.old host.old out.old)) (served_in input (file files.new) (at feed.new host.new out.new)) }
+        (at input files.old feed.old host.old out.old) (at input files.new feed.new host.new out.new) result }
+    ensures counts { let at = served_of F.Files E.Feed H.Disk K.Sink in (input : SourceView)
+        → FailsByAnswer result (at input files.old feed.old host.old out.old) (at input files.new feed.new host.new out.new) }
 {
     let settings = match read_files(alloc, asked.names, files) {
         Ok(settings) => settings,

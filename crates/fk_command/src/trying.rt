@@ -1,10 +1,7 @@
 //! The two files are read, and the lines of the input tried by them.
 ghost use Rattle.std.specs.Prelude.{◌≡◌, ◌≢◌, ◌⊎◌};
 ghost use Rattle.fk_log.specs.Causes.{FailsOnlyAs, FailsSink};
-ghost use Rattle.fk_log.specs.Printing.{sink_by};
-ghost use Rattle.fk_trial.specs.Streams.{source_by, streams_by};
-ghost use Rattle.fk_command.specs.Private.{TellsFiles, TriesFiles, bench, names_of};
-ghost use Rattle.fk_command.specs.World.{files_by};
+ghost use Rattle.fk_command.specs.Private.{TellsFiles, TriesFiles, bench_of, names_of};
 
 use crate::files::{FileNames, Settings, read_files};
 use crate::refusal::refuse;
@@ -24,9 +21,9 @@ pub(crate) fn try_by_files<F: Files, I: Source, K: Sink>(
     input: &mut I,
     out: &mut K,
 ) -> Status
-    ensures tries { let file = files_by F.held F.faults in let at = streams_by (source_by I.left I.faults) (sink_by K.written K.faults) in
-        TriesFiles (names_of names.entry) verbosity (bench (file files.old) (at input.old out.old)) (bench (file files.new) (at input.new out.new)) result
-        ⊎ TellsFiles (names_of names.entry) (bench (file files.old) (at input.old out.old)) (bench (file files.new) (at input.new out.new)) result }
+    ensures tries { let at = bench_of F.Files I.Source K.Sink in
+        TriesFiles (names_of names.entry) verbosity (at files.old input.old out.old) (at files.new input.new out.new) result
+        ⊎ TellsFiles (names_of names.entry) (at files.old input.old out.old) (at files.new input.new out.new) result }
     ensures files { FailsOnlyAs Status.FileFault result (F.faults files.old) (F.faults files.new) }
     ensures input { FailsOnlyAs Status.ReadFault result (I.faults input.old) (I.faults input.new) }
     ensures sink { FailsSink result (K.faults out.old) (K.faults out.new) }

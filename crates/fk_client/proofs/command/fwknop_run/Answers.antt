@@ -1,12 +1,11 @@
-use Rattle.fk_log.specs.Printing.{sink_by}
-use Rattle.fk_client.specs.Outside.{entropy_by, files_by, link_by, outside_by}
+use Rattle.fk_client.specs.Outside.{outside_of}
 use Rattle.fk_client.proofs.Counting.{client-counts}
 use Rattle.fk_client.proofs.Ended.{client-ends, client-missing, client-usage, client-wrong}
 use Rattle.fk_client.proofs.command.fwknop_run.Goals as goal
 
 pub returns : goal.returns
 returns g c =
-    let at = outside_by (files_by g.F.Files.held g.F.Files.faults) (entropy_by g.N.Entropy.left g.N.Entropy.faults) (link_by g.L.Link.told g.L.Link.faults) (sink_by g.K.Sink.written g.K.Sink.faults) in
+    let at = outside_of g.F.Files g.N.Entropy g.L.Link g.K.Sink in
     let old = at c.args.files.now c.args.entropy.now c.args.link.now c.args.out.now in
     let new = at c.run_words.new.files c.run_words.new.entropy c.run_words.new.link c.run_words.new.out in
     let runs = c.run_words.ensures in

@@ -3,11 +3,11 @@ use Rattle.fk_log.specs.Printing.{sink_by}
 use Rattle.fk_child.specs.View.{view_of}
 use Rattle.fk_conf.specs.declared.command.Command.{Command}
 use Rattle.fk_conf.specs.DaemonCommands.{IsForDaemon}
-use Rattle.fk_daemon.specs.Outside.{feed_by, outside_by}
+use Rattle.fk_daemon.specs.Outside.{feed_by}
 use Rattle.fk_command.specs.declared.help.TheConstants.{HELP, VERSION}
 use Rattle.fk_command.specs.Running.{PrintsOnly, Runs}
 use Rattle.fk_trial.specs.Streams.{source_by, streams_by}
-use Rattle.fk_command.specs.World.{files_by, world_by}
+use Rattle.fk_command.specs.World.{files_by, world_of}
 use Rattle.fk_command.proofs.Counting.{printed-counts, same-host}
 use Rattle.fk_command.specs.Private.{bench, names_of}
 use Rattle.fk_command.proofs.Served.{asked-serve, limits-are}
@@ -19,9 +19,7 @@ returns-in-List g c =
     let file = files_by g.F.Files.held g.F.Files.faults c.args.files.now in
     let feed = feed_by g.E.Feed.told g.E.Feed.faults g.E.Feed.has_ended c.args.feed.now in
     let input = source_by g.I.Source.left g.I.Source.faults c.args.input.now in
-    let at = world_by (files_by g.F.Files.held g.F.Files.faults)
-    (outside_by (feed_by g.E.Feed.told g.E.Feed.faults g.E.Feed.has_ended) (view_of g.H.Disk.told g.H.Disk.may_leave g.H.Disk.faults g.H.Disk.above) (sink_by g.K.Sink.written g.K.Sink.faults))
-    (source_by g.I.Source.left g.I.Source.faults) in
+    let at = world_of g.F.Files g.E.Feed g.H.Disk g.I.Source g.K.Sink in
     let before = at c.args.files.now c.args.feed.now c.args.host.now c.args.input.now c.args.out.now in
     let after = at c.args.files.now c.args.feed.now c.list_records.new.host c.args.input.now c.list_records.new.out in
     record {
@@ -31,9 +29,7 @@ returns-in-List g c =
 
 pub returns-in-Help : goal.returns-in-Help
 returns-in-Help g c =
-    let at = world_by (files_by g.F.Files.held g.F.Files.faults)
-    (outside_by (feed_by g.E.Feed.told g.E.Feed.faults g.E.Feed.has_ended) (view_of g.H.Disk.told g.H.Disk.may_leave g.H.Disk.faults g.H.Disk.above) (sink_by g.K.Sink.written g.K.Sink.faults))
-    (source_by g.I.Source.left g.I.Source.faults) in
+    let at = world_of g.F.Files g.E.Feed g.H.Disk g.I.Source g.K.Sink in
     let view = view_of g.H.Disk.told g.H.Disk.may_leave g.H.Disk.faults g.H.Disk.above in
     let before = at c.args.files.now c.args.feed.now c.args.host.now c.args.input.now c.args.out.now in
     let after = at c.args.files.now c.args.feed.now c.args.host.now c.args.input.now c.print.new.out in
@@ -52,9 +48,7 @@ returns-in-Help g c =
 
 pub returns-in-Version : goal.returns-in-Version
 returns-in-Version g c =
-    let at = world_by (files_by g.F.Files.held g.F.Files.faults)
-    (outside_by (feed_by g.E.Feed.told g.E.Feed.faults g.E.Feed.has_ended) (view_of g.H.Disk.told g.H.Disk.may_leave g.H.Disk.faults g.H.Disk.above) (sink_by g.K.Sink.written g.K.Sink.faults))
-    (source_by g.I.Source.left g.I.Source.faults) in
+    let at = world_of g.F.Files g.E.Feed g.H.Disk g.I.Source g.K.Sink in
     let view = view_of g.H.Disk.told g.H.Disk.may_leave g.H.Disk.faults g.H.Disk.above in
     let before = at c.args.files.now c.args.feed.now c.args.host.now c.args.input.now c.args.out.now in
     let after = at c.args.files.now c.args.feed.now c.args.host.now c.args.input.now c.print-in-Version.new.out in
@@ -74,9 +68,7 @@ returns-in-Version g c =
 pub returns-in-Serve : goal.returns-in-Serve
 returns-in-Serve g c =
     let input = source_by g.I.Source.left g.I.Source.faults c.args.input.now in
-    let at = world_by (files_by g.F.Files.held g.F.Files.faults)
-    (outside_by (feed_by g.E.Feed.told g.E.Feed.faults g.E.Feed.has_ended) (view_of g.H.Disk.told g.H.Disk.may_leave g.H.Disk.faults g.H.Disk.above) (sink_by g.K.Sink.written g.K.Sink.faults))
-    (source_by g.I.Source.left g.I.Source.faults) in
+    let at = world_of g.F.Files g.E.Feed g.H.Disk g.I.Source g.K.Sink in
     let before = at c.args.files.now c.args.feed.now c.args.host.now c.args.input.now c.args.out.now in
     let after = at c.serve_by_files.new.files c.serve_by_files.new.feed c.serve_by_files.new.host c.args.input.now c.serve_by_files.new.out in
     let names = names_of c.file_names-names.result in

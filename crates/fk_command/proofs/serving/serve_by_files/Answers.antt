@@ -1,12 +1,10 @@
 use Rattle.std.proofs.Common.{inl, inr, subst, sym}
 use Rattle.fk_log.specs.Printing.{sink_by}
-use Rattle.fk_child.specs.View.{view_of}
 use Rattle.fk_daemon.specs.Account.{AreLimits}
-use Rattle.fk_daemon.specs.Outside.{feed_by, outside_by}
 use Rattle.fk_command.specs.Private.{fault_of, names_of, served_in}
 use Rattle.fk_command.specs.Running.{RefusesFiles}
 use Rattle.fk_trial.specs.Streams.{SourceView}
-use Rattle.fk_command.specs.World.{files_by}
+use Rattle.fk_command.specs.World.{files_by, outside_of}
 use Rattle.fk_command.proofs.Counting.{refused-counts, refused-files, served-counts}
 use Rattle.fk_command.proofs.Served.{served}
 use Rattle.fk_command.proofs.serving.serve_by_files.Goals as goal
@@ -15,7 +13,7 @@ pub returns-in-Err : goal.returns-in-Err
 returns-in-Err g c =
     let file = files_by g.F.Files.held g.F.Files.faults in
     let sink = sink_by g.K.Sink.written g.K.Sink.faults in
-    let at = outside_by (feed_by g.E.Feed.told g.E.Feed.faults g.E.Feed.has_ended) (view_of g.H.Disk.told g.H.Disk.may_leave g.H.Disk.faults g.H.Disk.above) sink in
+    let at = outside_of g.E.Feed g.H.Disk g.K.Sink in
     let names = names_of c.args.asked.now.names in
     let before = at c.args.feed.now c.args.host.now c.args.out.now in
     let after = at c.args.feed.now c.args.host.now c.refuse.new.out in
@@ -30,7 +28,7 @@ returns-in-Err g c =
 pub returns : goal.returns
 returns g c =
     let file = files_by g.F.Files.held g.F.Files.faults in
-    let at = outside_by (feed_by g.E.Feed.told g.E.Feed.faults g.E.Feed.has_ended) (view_of g.H.Disk.told g.H.Disk.may_leave g.H.Disk.faults g.H.Disk.above) (sink_by g.K.Sink.written g.K.Sink.faults) in
+    let at = outside_of g.E.Feed g.H.Disk g.K.Sink in
     let asked = c.args.asked.now in
     let before = at c.args.feed.now c.args.host.now c.args.out.now in
     let after = at c.serve.new.feed c.serve.new.host c.serve.new.out in
