@@ -6,67 +6,48 @@ use Rattle.fk_conf.specs.declared.command.Command.{Command}
 use Rattle.fk_conf.specs.declared.command.Command.TheVariants as command
 use Rattle.fk_conf.specs.declared.command.SendWords.{SendWords}
 use Rattle.fk_conf.specs.declared.word_fault.WordFault.{WordFault}
-use Rattle.fk_conf.specs.declared.word_fault.WordFault.TheVariants as word
 use Rattle.fk_log.specs.Causes.{FailsOnlyAs, FailsSink}
-use Rattle.fk_log.specs.Printing.{SinkView, Prints}
+use Rattle.fk_log.specs.Printing.{SinkView}
 use Rattle.fk_client.specs.declared.help.TheConstants.{HELP, VERSION}
 use Rattle.fk_client.specs.declared.sent.Packet.{Packet}
 use Rattle.fk_client.specs.declared.settled.Settings.{Settings}
 use Rattle.fk_client.specs.Causes.{FailsByAnswer}
 use Rattle.fk_client.specs.ClientText.{keys_text, sent_text, shown_text}
-use Rattle.fk_client.specs.Faults.{Fault, Says, Shows, Tells, fault_of_words, fault_status, fault_text, printed_status}
-use Rattle.fk_client.specs.Faults.Fault.{WrongWords, FileNotHeld, FileNotRead, WrongFile, LacksSetting, EntropyFails, LinkFails, WantsMemory}
-use Rattle.fk_client.specs.Outside.{FilesView, EntropyView, LinkView, Outside, undrawn}
-use Rattle.fk_client.specs.Running.{Delivers, FailsToSettle, MakesKeys, OnlyPrints, RunsClient, RunsSend, Runs, SendsBy, SendsPacket}
-use Rattle.fk_client.proofs.Saying.{said-once}
+use Rattle.fk_client.specs.Faults.{Fault, Tells, fault_status, fault_text}
+use Rattle.fk_program.specs.Faults.{fault_of_words}
+use Rattle.fk_program.specs.Files.{FilesView}
+use Rattle.fk_program.specs.Telling.{Says, Shows}
+use Rattle.fk_program.proofs.Counting.{Blames, fault-blames, file-count, shown-blames, shows-sink, told-sink as common-told, words-spare-files}
+use Rattle.fk_program.proofs.Saying.{said-once}
+use Rattle.fk_client.specs.Faults.Fault.{Common, LacksSetting, EntropyFails, LinkFails}
+use Rattle.fk_program.specs.Faults.Fault.{WantsMemory}
+use Rattle.fk_client.specs.Outside.{EntropyView, LinkView, Outside, undrawn}
+use Rattle.fk_client.specs.Running.{rc_test, Delivers, FailsToSettle, MakesKeys, OnlyPrints, RunsClient, RunsSend, Runs, SendsBy, SendsPacket}
 
 -- the output's count after a fault was told
 told-sink : (fault : Fault) (old new : SinkView) → Says (fault_text fault) old new → FailsSink (fault_status fault) old.faults new.faults
-told-sink (WrongWords why) old new says = said-once (fault_text (WrongWords why)) old new says
-told-sink (FileNotHeld name) old new says = said-once (fault_text (FileNotHeld name)) old new says
-told-sink (FileNotRead name) old new says = said-once (fault_text (FileNotRead name)) old new says
-told-sink (WrongFile name line what) old new says = said-once (fault_text (WrongFile name line what)) old new says
+told-sink (Common fault) old new says = common-told fault old new says
 told-sink (LacksSetting name what) old new says = said-once (fault_text (LacksSetting name what)) old new says
 told-sink EntropyFails old new says = said-once (fault_text EntropyFails) old new says
 told-sink LinkFails old new says = said-once (fault_text LinkFails) old new says
-told-sink WantsMemory old new says = said-once (fault_text WantsMemory) old new says
 
 tells-sink : (fault : Fault) (old new : SinkView) (answer : Status) → Tells fault old new answer → FailsSink answer old.faults new.faults
 tells-sink fault old new answer tells = subst (λ (a : Status). FailsSink a old.faults new.faults) (sym tells.answered) (told-sink fault old new tells.said)
 
--- the output's count after a text was printed
-prints-sink : (is_broken : Bool) (text : List ℕ) (old new : SinkView) (answer : Status) → Prints text is_broken old new → answer ≡ printed_status is_broken
-    → FailsSink answer old.faults new.faults
-prints-sink false text old new answer prints is = subst (λ (a : Status). FailsSink a old.faults new.faults) (sym is) prints.1
-prints-sink true text old new answer prints is = subst (λ (a : Status). FailsSink a old.faults new.faults) (sym is) prints.1
-
-shows-sink : (text : List ℕ) (old new : SinkView) (answer : Status) → Shows text old new answer → FailsSink answer old.faults new.faults
-shows-sink text old new answer shows = prints-sink shows.is_broken text old new answer shows.printed shows.answered
-
--- an answer that is none of the three faults of an object that is read, drawn from or sent by
-pub record Blames (answer : Status) : Type 0 where
-  pub files : answer ≢ status.FileFault
-  pub entropy : answer ≢ status.EntropyFault
-  pub link : answer ≢ status.LinkFault
-
-blames-none : (is_broken : Bool) (answer : Status) → answer ≡ printed_status is_broken → Blames answer
-blames-none false answer is = subst Blames (sym is) (record { files = λ e. cc; entropy = λ e. cc; link = λ e. cc })
-blames-none true answer is = subst Blames (sym is) (record { files = λ e. cc; entropy = λ e. cc; link = λ e. cc })
-
 -- nothing but the output failed
-calm-counts : (old new : Outside) (answer : Status) → Blames answer → new.files.faults ≡ old.files.faults → new.entropy.faults ≡ old.entropy.faults
+calm-counts : (old new : Outside) (answer : Status) → (answer ≢ status.FileFault) × Blames answer → new.files.faults ≡ old.files.faults → new.entropy.faults ≡ old.entropy.faults
     → new.link.faults ≡ old.link.faults → FailsSink answer old.sink.faults new.sink.faults → FailsByAnswer answer old new
 calm-counts old new answer blames files entropy link sink = record {
-  files = inr (blames.files, files);
-  entropy = inr (blames.entropy, entropy);
-  link = inr (blames.link, link);
+  files = inr (blames.0, files);
+  entropy = inr (blames.1.entropy, entropy);
+  link = inr (blames.1.link, link);
   sink = sink;
 }
 
 shown-counts : (text : List ℕ) (old new : Outside) (answer : Status) → new.files.faults ≡ old.files.faults → new.entropy.faults ≡ old.entropy.faults
     → new.link.faults ≡ old.link.faults → Shows text old.sink new.sink answer → FailsByAnswer answer old new
 shown-counts text old new answer files entropy link shows =
-    calm-counts old new answer (blames-none shows.is_broken answer shows.answered) files entropy link (shows-sink text old.sink new.sink answer shows)
+    calm-counts old new answer (shown-blames shows.is_broken answer shows.answered) files entropy link (shows-sink text old.sink new.sink answer shows)
 
 -- a fault that is told, by the counts of the three objects
 pub record CountsOf (fault : Fault) (old new : Outside) : Type 0 where
@@ -92,23 +73,22 @@ same-link : (old new : Outside) → new.link ≡ old.link → new.link.faults �
 same-link old new same = ap (λ (link : LinkView). link.faults) same
 
 -- the words were no command
-word-counts : (fault : WordFault) (old new : Outside) → OnlyPrints old new → CountsOf (fault_of_words fault) old new
-word-counts (word.Unknown place) old new only = record { files = inr (λ e. cc, same-files old new only.files); entropy = inr (λ e. cc, same-entropy old new only.entropy); link = inr (λ e. cc, same-link old new only.link) }
-word-counts (word.NoValue place) old new only = record { files = inr (λ e. cc, same-files old new only.files); entropy = inr (λ e. cc, same-entropy old new only.entropy); link = inr (λ e. cc, same-link old new only.link) }
-word-counts (word.Twice place) old new only = record { files = inr (λ e. cc, same-files old new only.files); entropy = inr (λ e. cc, same-entropy old new only.entropy); link = inr (λ e. cc, same-link old new only.link) }
-word-counts (word.BadValue place) old new only = record { files = inr (λ e. cc, same-files old new only.files); entropy = inr (λ e. cc, same-entropy old new only.entropy); link = inr (λ e. cc, same-link old new only.link) }
-word-counts word.Modes old new only = record { files = inr (λ e. cc, same-files old new only.files); entropy = inr (λ e. cc, same-entropy old new only.entropy); link = inr (λ e. cc, same-link old new only.link) }
-word-counts word.NoMemory old new only = record { files = inr (λ e. cc, same-files old new only.files); entropy = inr (λ e. cc, same-entropy old new only.entropy); link = inr (λ e. cc, same-link old new only.link) }
+word-counts : (fault : WordFault) (old new : Outside) → OnlyPrints old new → CountsOf (Common (fault_of_words fault)) old new
+word-counts fault old new only = record {
+  files = inr (words-spare-files fault, same-files old new only.files);
+  entropy = inr ((fault-blames (fault_of_words fault)).entropy, same-entropy old new only.entropy);
+  link = inr ((fault-blames (fault_of_words fault)).link, same-link old new only.link);
+}
 
 -- there were no settings
 settle-counts : (send : SendWords) (fault : Fault) (old new : Outside) → FailsToSettle send fault old.files new.files → new.entropy ≡ old.entropy → new.link ≡ old.link
     → CountsOf fault old new
-settle-counts send (FileNotHeld name) old new fails entropy link = record { files = inl (refl, ap (λ (files : FilesView). files.faults) fails.1); entropy = inr (λ e. cc, same-entropy old new entropy); link = inr (λ e. cc, same-link old new link) }
-settle-counts send (FileNotRead name) old new fails entropy link = record { files = inl (refl, ap (λ (files : FilesView). files.faults) fails.1); entropy = inr (λ e. cc, same-entropy old new entropy); link = inr (λ e. cc, same-link old new link) }
-settle-counts send (WrongFile name line what) old new fails entropy link = record { files = inr (λ e. cc, same-files old new fails.1); entropy = inr (λ e. cc, same-entropy old new entropy); link = inr (λ e. cc, same-link old new link) }
+settle-counts send (Common fault) old new fails entropy link = record {
+  files = file-count (rc_test send.file) send.file fault old.files new.files fails;
+  entropy = inr ((fault-blames fault).entropy, same-entropy old new entropy);
+  link = inr ((fault-blames fault).link, same-link old new link);
+}
 settle-counts send (LacksSetting name what) old new fails entropy link = record { files = inr (λ e. cc, same-files old new fails.1); entropy = inr (λ e. cc, same-entropy old new entropy); link = inr (λ e. cc, same-link old new link) }
-settle-counts send WantsMemory old new fails entropy link = record { files = inr (λ e. cc, same-files old new fails); entropy = inr (λ e. cc, same-entropy old new entropy); link = inr (λ e. cc, same-link old new link) }
-settle-counts send (WrongWords why) old new fails entropy link = absurd fails
 settle-counts send EntropyFails old new fails entropy link = absurd fails
 settle-counts send LinkFails old new fails entropy link = absurd fails
 
@@ -121,9 +101,9 @@ undrawn-counts old new answer files entropy link tells =
 
 -- memory was wanting
 short-counts : (old new : Outside) (answer : Status) → new.files.faults ≡ old.files.faults → new.entropy.faults ≡ old.entropy.faults → new.link.faults ≡ old.link.faults
-    → Tells WantsMemory old.sink new.sink answer → FailsByAnswer answer old new
+    → Tells (Common WantsMemory) old.sink new.sink answer → FailsByAnswer answer old new
 short-counts old new answer files entropy link tells =
-    told-counts WantsMemory old new answer (record { files = inr (λ e. cc, files); entropy = inr (λ e. cc, entropy); link = inr (λ e. cc, link) }) tells
+    told-counts (Common WantsMemory) old new answer (record { files = inr (λ e. cc, files); entropy = inr (λ e. cc, entropy); link = inr (λ e. cc, link) }) tells
 
 -- the packet was sent, or the link failed
 sent-counts : (packet : Packet) (old new : Outside) (answer : Status) → new.files.faults ≡ old.files.faults → new.entropy.faults ≡ old.entropy.faults
@@ -189,6 +169,6 @@ asked-counts command.Version moment old new answer runs =
 pub client-counts : (words : List (List ℕ)) (moment : ℕ) (old new : Outside) (answer : Status) → RunsClient words moment old new answer → FailsByAnswer answer old new
 client-counts words moment old new answer runs =
     elim runs [
-      | inl refuses ↦ told-counts (fault_of_words refuses.fault) old new answer (word-counts refuses.fault old new refuses.only) refuses.told
+      | inl refuses ↦ told-counts (Common (fault_of_words refuses.fault)) old new answer (word-counts refuses.fault old new refuses.only) refuses.told
       | inr obeys ↦ asked-counts obeys.command moment old new answer obeys.runs
     ]

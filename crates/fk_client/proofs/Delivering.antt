@@ -4,8 +4,10 @@ use Rattle.fk_base.specs.declared.status.Status.{Status}
 use Rattle.fk_client.specs.declared.sent.Packet.{Packet}
 use Rattle.fk_client.specs.declared.settled.Settings.{Settings}
 use Rattle.fk_client.specs.ClientText.{shown_text}
-use Rattle.fk_client.specs.Faults.{Fault, Shows, Tells}
-use Rattle.fk_client.specs.Faults.Fault.{WrongWords, FileNotHeld, FileNotRead, WrongFile, LacksSetting, EntropyFails, LinkFails, WantsMemory}
+use Rattle.fk_client.specs.Faults.{Fault, Tells}
+use Rattle.fk_program.specs.Telling.{Shows}
+use Rattle.fk_client.specs.Faults.Fault.{Common, LacksSetting, EntropyFails, LinkFails}
+use Rattle.fk_program.specs.Faults.Fault.{WrongWords, FileNotHeld, FileNotRead, WrongFile, WantsMemory}
 use Rattle.fk_client.specs.Outside.{Outside}
 use Rattle.fk_client.specs.Private.{DrawsInVain, DrawsPacket}
 use Rattle.fk_client.specs.Running.{Delivers, SendsBy, SendsPacket}
@@ -14,11 +16,11 @@ use Rattle.fk_client.specs.Running.{Delivers, SendsBy, SendsPacket}
 pub in-vain : (is_shown : Bool) (settings : Settings) (moment : ℕ) (fault : Fault) (old new : Outside) (answer : Status)
     → DrawsInVain 24 fault old.entropy new.entropy → new.link ≡ old.link → Tells fault old.sink new.sink answer → SendsBy is_shown settings moment old new answer
 in-vain is_shown settings moment EntropyFails old new answer draws link tells = inl (record { entropy = draws; link = link; told = tells })
-in-vain is_shown settings moment WantsMemory old new answer draws link tells = inr (draws.0, draws.1, inl (link, tells))
-in-vain is_shown settings moment (WrongWords why) old new answer draws link tells = absurd draws
-in-vain is_shown settings moment (FileNotHeld name) old new answer draws link tells = absurd draws
-in-vain is_shown settings moment (FileNotRead name) old new answer draws link tells = absurd draws
-in-vain is_shown settings moment (WrongFile name line what) old new answer draws link tells = absurd draws
+in-vain is_shown settings moment (Common WantsMemory) old new answer draws link tells = inr (draws.0, draws.1, inl (link, tells))
+in-vain is_shown settings moment (Common (WrongWords why)) old new answer draws link tells = absurd draws
+in-vain is_shown settings moment (Common (FileNotHeld name)) old new answer draws link tells = absurd draws
+in-vain is_shown settings moment (Common (FileNotRead name)) old new answer draws link tells = absurd draws
+in-vain is_shown settings moment (Common (WrongFile name line what)) old new answer draws link tells = absurd draws
 in-vain is_shown settings moment (LacksSetting name what) old new answer draws link tells = absurd draws
 in-vain is_shown settings moment LinkFails old new answer draws link tells = absurd draws
 

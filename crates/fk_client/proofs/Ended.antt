@@ -1,5 +1,6 @@
 -- A client in whose way nothing stands ends well, and only wrong words are usage.
 use Rattle.std.proofs.Common.{◌≡◌, ◌≢◌, ◌↔◌, ℕ, Bool, true, false, List, Option, Some, None, IfSome, IsSomeAnd, Result, Ok, Err, IsErr, refl, sym, ap, subst, inl, inr, ◌∙◌}
+use Rattle.std.specs.Option.{option_map}
 use Rattle.fk_base.specs.declared.status.Status.{Status}
 use Rattle.fk_base.specs.declared.status.Status.TheVariants as status
 use Rattle.fk_host.specs.declared.files.HeldFile.{HeldFile}
@@ -13,15 +14,20 @@ use Rattle.fk_conf.specs.declared.command.SendWords.{SendWords}
 use Rattle.fk_conf.specs.declared.tool.Tool.TheVariants.{Client}
 use Rattle.fk_conf.specs.declared.word_fault.WordFault.{WordFault}
 use Rattle.fk_conf.specs.declared.word_fault.WordFault.TheVariants as word
+use Rattle.fk_conf.specs.FaultNames.{conf_fault_name}
 use Rattle.fk_conf.specs.RcFault.{rc_fault}
 use Rattle.fk_conf.specs.ReadsRc.{ReadsRc}
 use Rattle.fk_conf.specs.ReadsWords.{IsWordErr, ReadsWords, set_read}
 use Rattle.fk_client.specs.declared.sent.Packet.{Packet}
 use Rattle.fk_client.specs.declared.settled.Settings.{Settings}
 use Rattle.fk_client.specs.Causes.{FailsByAnswer}
-use Rattle.fk_client.specs.Faults.{Fault, fault_of_words, fault_status, printed_status}
-use Rattle.fk_client.specs.Faults.Fault.{WrongWords, FileNotHeld, FileNotRead, WrongFile, LacksSetting, EntropyFails, LinkFails, WantsMemory}
-use Rattle.fk_client.specs.Outside.{FilesView, Outside}
+use Rattle.fk_client.specs.Faults.{Fault, fault_status}
+use Rattle.fk_program.specs.Faults.{Fault as FileFault, fault_of_words}
+use Rattle.fk_program.specs.Files.{FilesView}
+use Rattle.fk_program.specs.Telling.{printed_status}
+use Rattle.fk_client.specs.Faults.Fault.{Common, LacksSetting, EntropyFails, LinkFails}
+use Rattle.fk_program.specs.Faults.Fault.{WrongWords, FileNotHeld, FileNotRead, WrongFile, WantsMemory}
+use Rattle.fk_client.specs.Outside.{Outside}
 use Rattle.fk_client.specs.Ready.{CountsNone, EndsAs, IsReadyFor, IsReadyToSend, IsWrongText, MeetsNoFault, NamesNoFile, NamesWrongFile}
 use Rattle.fk_client.specs.Running.{Delivers, FailsToSettle, HasSettings, MakesKeys, RunsClient, RunsSend, Runs, SendsBy}
 use Rattle.fk_client.specs.Settle.{need_fault}
@@ -70,22 +76,26 @@ held-same name other text found (Some held) names right told =
 none-wrong : {X : Type 0} (fault : Option X) (x : X) → fault ≡ None → fault ≡ Some x → ⊥
 none-wrong fault x none wrong = cc
 
+none-told : {X : Type 0} (f : X → FileFault) (found : Option X) (fault : FileFault) → found ≡ None → option_map f found ≡ Some fault → ⊥
+none-told f None fault is told = cc
+none-told f (Some x) fault is told = cc
+
 -- no fault of what is read is told
 settles-ends : (send asked : SendWords) (fault : Fault) (old new : FilesView) → SaysSame send asked → IsReadyToSend asked old → FailsToSettle send fault old new
     → IsCalm (fault_status fault) → EndsAs status.Done (fault_status fault)
-settles-ends send asked (FileNotHeld name) old new same ready fails calm = absurd (calm.files refl)
-settles-ends send asked (FileNotRead name) old new same ready fails calm = absurd (calm.files refl)
-settles-ends send asked (WrongFile name line what) old new same ready fails calm =
-    let wrong = fails.2 in
-    let text : wrong.text ≡ ready.text = held-same asked.file send.file ready.text wrong.text old.held same.file ready.held wrong.read.held in
-    absurd (none-wrong (rc_fault wrong.text) (line, wrong.fault) (subst (λ (t : List ℕ). rc_fault t ≡ None) (sym text) ready.says.faultless) wrong.first)
+settles-ends send asked (Common (FileNotHeld name)) old new same ready fails calm = absurd (calm.files refl)
+settles-ends send asked (Common (FileNotRead name)) old new same ready fails calm = absurd (calm.files refl)
+settles-ends send asked (Common (WrongFile name line what)) old new same ready fails calm =
+    let text : fails.1.0 ≡ ready.text = held-same asked.file send.file ready.text fails.1.0 old.held same.file ready.held fails.1.1.held in
+    absurd (none-told (λ found. WrongFile send.file found.0 (conf_fault_name found.1)) (rc_fault fails.1.0) (WrongFile name line what)
+    (subst (λ (t : List ℕ). rc_fault t ≡ None) (sym text) ready.says.faultless) fails.1.2)
 settles-ends send asked (LacksSetting name what) old new same ready fails calm =
     let lacks = fails.2 in
     let text : lacks.read.text ≡ ready.text = held-same asked.file send.file ready.text lacks.read.text old.held same.file ready.held lacks.read.read.held in
     let says : ReadsRc ready.text lacks.stanzas = subst (λ (t : List ℕ). ReadsRc t lacks.stanzas) text lacks.read.says in
     absurd (none-wrong (need_fault lacks.stanzas send) lacks.fault (needs-same ready.text lacks.stanzas ready.stanzas send asked says ready.says same ∙ ready.needs) lacks.first)
-settles-ends send asked WantsMemory old new same ready fails calm = inr refl
-settles-ends send asked (WrongWords why) old new same ready fails calm = absurd fails
+settles-ends send asked (Common WantsMemory) old new same ready fails calm = inr refl
+settles-ends send asked (Common (WrongWords why)) old new same ready fails calm = absurd fails
 settles-ends send asked EntropyFails old new same ready fails calm = absurd fails
 settles-ends send asked LinkFails old new same ready fails calm = absurd fails
 
@@ -144,7 +154,7 @@ asked-ends command.Journal asked moment old new answer alike ready runs calm = a
 asked-ends (command.Generate count) asked moment old new answer alike ready runs calm = absurd runs
 
 word-stops : (words : List (List ℕ)) (fault : WordFault) (asked : Command) (wanted answer : Status) → IsWordErr Client words fault → ReadsWords Client words asked
-    → answer ≡ fault_status (fault_of_words fault) → EndsAs wanted answer
+    → answer ≡ fault_status (Common (fault_of_words fault)) → EndsAs wanted answer
 word-stops words word.NoMemory asked wanted answer why reads is = inr is
 word-stops words (word.Unknown place) asked wanted answer why reads is = let read = reads.reads in absurd cc
 word-stops words (word.NoValue place) asked wanted answer why reads is = let read = reads.reads in absurd cc
@@ -170,12 +180,12 @@ no-usage-printed false answer is = λ usage. cc
 no-usage-printed true answer is = λ usage. cc
 
 no-usage-settled : (send : SendWords) (fault : Fault) (old new : FilesView) → FailsToSettle send fault old new → fault_status fault ≢ status.Usage
-no-usage-settled send (FileNotHeld name) old new fails = λ usage. cc
-no-usage-settled send (FileNotRead name) old new fails = λ usage. cc
-no-usage-settled send (WrongFile name line what) old new fails = λ usage. cc
+no-usage-settled send (Common (FileNotHeld name)) old new fails = λ usage. cc
+no-usage-settled send (Common (FileNotRead name)) old new fails = λ usage. cc
+no-usage-settled send (Common (WrongFile name line what)) old new fails = λ usage. cc
 no-usage-settled send (LacksSetting name what) old new fails = λ usage. cc
-no-usage-settled send WantsMemory old new fails = λ usage. cc
-no-usage-settled send (WrongWords why) old new fails = absurd fails
+no-usage-settled send (Common WantsMemory) old new fails = λ usage. cc
+no-usage-settled send (Common (WrongWords why)) old new fails = absurd fails
 no-usage-settled send EntropyFails old new fails = absurd fails
 no-usage-settled send LinkFails old new fails = absurd fails
 
@@ -232,7 +242,7 @@ ok-no_err : {T : Type 0} (read : Result T WordFault) (set : T) → read ≡ Ok s
 ok-no_err (Ok set) other is wrong = cc
 ok-no_err (Err e) other is wrong = cc
 
-usage-words : (words : List (List ℕ)) (fault : WordFault) (answer : Status) → IsWordErr Client words fault → answer ≡ fault_status (fault_of_words fault)
+usage-words : (words : List (List ℕ)) (fault : WordFault) (answer : Status) → IsWordErr Client words fault → answer ≡ fault_status (Common (fault_of_words fault))
     → (answer ≡ status.Usage) ↔ IsErr (set_read Client words)
 usage-words words word.NoMemory answer why is = (λ usage. absurd cc, λ wrong. absurd (ok-no_err (set_read Client words) why.set why.reads wrong))
 usage-words words (word.Unknown place) answer why is = (λ usage. err-of (set_read Client words) (word.Unknown place) why, λ wrong. is)
@@ -264,25 +274,25 @@ not-held name other text (Some held) names missing told =
 
 missing-ends : (send asked : SendWords) (fault : Fault) (old new : FilesView) → SaysSame send asked → IsSomeAnd old.held (λ held. bytes_of_file asked.file held ≡ None)
     → FailsToSettle send fault old new → EndsAs status.FileFault (fault_status fault)
-missing-ends send asked (FileNotHeld name) old new same missing fails = inl refl
-missing-ends send asked (FileNotRead name) old new same missing fails = inl refl
-missing-ends send asked (WrongFile name line what) old new same missing fails =
-    absurd (not-held asked.file send.file fails.2.text old.held same.file missing fails.2.read.held)
+missing-ends send asked (Common (FileNotHeld name)) old new same missing fails = inl refl
+missing-ends send asked (Common (FileNotRead name)) old new same missing fails = inl refl
+missing-ends send asked (Common (WrongFile name line what)) old new same missing fails =
+    absurd (not-held asked.file send.file fails.1.0 old.held same.file missing fails.1.1.held)
 missing-ends send asked (LacksSetting name what) old new same missing fails =
     absurd (not-held asked.file send.file fails.2.read.text old.held same.file missing fails.2.read.read.held)
-missing-ends send asked WantsMemory old new same missing fails = inr refl
-missing-ends send asked (WrongWords why) old new same missing fails = absurd fails
+missing-ends send asked (Common WantsMemory) old new same missing fails = inr refl
+missing-ends send asked (Common (WrongWords why)) old new same missing fails = absurd fails
 missing-ends send asked EntropyFails old new same missing fails = absurd fails
 missing-ends send asked LinkFails old new same missing fails = absurd fails
 
 wrong-ends : (send asked : SendWords) (fault : Fault) (old new : FilesView) → (Rose old.faults new.faults → ⊥) → FailsToSettle send fault old new
     → EndsAs status.Config (fault_status fault)
-wrong-ends send asked (FileNotHeld name) old new calm fails = absurd (calm (rose old.faults new.faults (ap (λ (files : FilesView). files.faults) fails.1)))
-wrong-ends send asked (FileNotRead name) old new calm fails = absurd (calm (rose old.faults new.faults (ap (λ (files : FilesView). files.faults) fails.1)))
-wrong-ends send asked (WrongFile name line what) old new calm fails = inl refl
+wrong-ends send asked (Common (FileNotHeld name)) old new calm fails = absurd (calm (rose old.faults new.faults (ap (λ (files : FilesView). files.faults) fails.1)))
+wrong-ends send asked (Common (FileNotRead name)) old new calm fails = absurd (calm (rose old.faults new.faults (ap (λ (files : FilesView). files.faults) fails.1)))
+wrong-ends send asked (Common (WrongFile name line what)) old new calm fails = inl refl
 wrong-ends send asked (LacksSetting name what) old new calm fails = inl refl
-wrong-ends send asked WantsMemory old new calm fails = inr refl
-wrong-ends send asked (WrongWords why) old new calm fails = absurd fails
+wrong-ends send asked (Common WantsMemory) old new calm fails = inr refl
+wrong-ends send asked (Common (WrongWords why)) old new calm fails = absurd fails
 wrong-ends send asked EntropyFails old new calm fails = absurd fails
 wrong-ends send asked LinkFails old new calm fails = absurd fails
 

@@ -4,15 +4,10 @@ use Rattle.fk_host.specs.Count.{counted}
 use Rattle.fk_host.specs.Link.{Sendings}
 use Rattle.fk_host.specs.declared.entropy.Entropy.{Ghosts as EntropyMeaning}
 use Rattle.fk_host.specs.declared.files.Files.{Ghosts as FilesMeaning}
-use Rattle.fk_host.specs.declared.files.HeldFile.{HeldFile}
 use Rattle.fk_host.specs.declared.link.Link.{Ghosts as LinkMeaning}
 use Rattle.fk_host.specs.declared.stream.Sink.{Ghosts as SinkMeaning}
 use Rattle.fk_log.specs.Printing.{SinkView, sink_by}
-
-pub record FilesView : Type 0 where
-  -- what is held, where they tell
-  pub held : Option (List HeldFile)
-  pub faults : ℕ
+use Rattle.fk_program.specs.Files.{FilesView, files_by}
 
 pub record EntropyView : Type 0 where
   -- the bytes that it has left, where it tells
@@ -30,9 +25,6 @@ pub record Outside : Type 0 where
   pub link : LinkView
   pub sink : SinkView
 
-abbrev pub files_by : {F : Type 0} → (F → Option (List HeldFile)) → (F → ℕ) → F → FilesView
-files_by held faults files = record { held = held files; faults = faults files }
-
 abbrev pub entropy_by : {N : Type 0} → (N → Option (List ℕ)) → (N → ℕ) → N → EntropyView
 entropy_by left faults entropy = record { left = left entropy; faults = faults entropy }
 
@@ -48,10 +40,6 @@ outside_by files_view entropy_view link_view sink_view files entropy link sink =
 abbrev pub outside_of : {F N L K : Type 0} → FilesMeaning F → EntropyMeaning N → LinkMeaning L → SinkMeaning K → F → N → L → K → Outside
 outside_of files entropy link sink =
     outside_by (files_by files.held files.faults) (entropy_by entropy.left entropy.faults) (link_by link.told link.faults) (sink_by sink.written sink.faults)
-
--- the files refused a read, and count it
-abbrev pub refused : FilesView → FilesView
-refused files = record files { faults = counted files.faults }
 
 -- the entropy failed, and has taken nothing
 abbrev pub undrawn : EntropyView → EntropyView

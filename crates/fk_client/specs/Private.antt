@@ -3,26 +3,24 @@ use Rattle.std.specs.Prelude.{◌≡◌, ℕ, List}
 use Rattle.fk_client.specs.declared.refusal.Refusal.{Refusal}
 use Rattle.fk_client.specs.declared.refusal.Refusal.TheVariants as refusal
 use Rattle.fk_client.specs.Faults.{Fault}
-use Rattle.fk_client.specs.Faults.Fault.{WrongWords, FileNotHeld, FileNotRead, WrongFile, LacksSetting, EntropyFails, LinkFails, WantsMemory}
+use Rattle.fk_client.specs.Faults.Fault.{Common, LacksSetting, EntropyFails, LinkFails}
 use Rattle.fk_client.specs.declared.sent.Packet.{Packet}
 use Rattle.fk_client.specs.declared.settled.Settings.{Settings}
 use Rattle.fk_client.specs.Outside.{EntropyView, undrawn}
 use Rattle.fk_client.specs.Running.{Draws, IsPacket}
+use Rattle.fk_program.specs.Faults.{fault_of as common_fault_of}
+use Rattle.fk_program.specs.Faults.Fault.{WantsMemory}
 
 abbrev pub fault_of : Refusal → Fault
-fault_of (refusal.Words fault) = WrongWords fault
-fault_of (refusal.Missing name) = FileNotHeld name.now
-fault_of (refusal.Failed name) = FileNotRead name.now
-fault_of (refusal.BadFile name line what) = WrongFile name.now line what.now
+fault_of (refusal.Common common) = Common (common_fault_of common)
 fault_of (refusal.Need name what) = LacksSetting name.now what.now
 fault_of refusal.Entropy = EntropyFails
 fault_of refusal.Link = LinkFails
-fault_of refusal.NoMemory = WantsMemory
 
 -- bytes were drawn, and memory was wanting
 abbrev pub DrawsInVain : ℕ → Fault → EntropyView → EntropyView → Type 0
 DrawsInVain count EntropyFails old new = new ≡ undrawn old
-DrawsInVain count WantsMemory old new = (drawn : List ℕ) × Draws count drawn old new
+DrawsInVain count (Common WantsMemory) old new = (drawn : List ℕ) × Draws count drawn old new
 DrawsInVain count _ old new = ⊥
 
 -- bytes were drawn, and they make this packet

@@ -12,7 +12,8 @@ use Rattle.fk_conf.specs.declared.command.Command.TheVariants as command
 use Rattle.fk_conf.specs.declared.command.SendWords.{SendWords}
 use Rattle.fk_conf.specs.declared.rc_stanza.RcStanza.{RcStanza}
 use Rattle.fk_conf.specs.declared.tool.Tool.TheVariants.{Client}
-use Rattle.fk_client.specs.Outside.{FilesView, Outside}
+use Rattle.fk_program.specs.Files.{FilesView}
+use Rattle.fk_client.specs.Outside.{Outside}
 use Rattle.fk_client.specs.Settle.{need_fault}
 
 -- the file that the words name is held, its text says stanzas, and these and the words give all that is needed

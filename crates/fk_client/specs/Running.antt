@@ -1,10 +1,9 @@
 -- What a client does: what it reads, draws, sends and prints, and how it ends.
-use Rattle.std.specs.Prelude.{◌≡◌, ◌≢◌, ◌⊎◌, ℕ, ◌≤◌, Bool, true, false, List, length, Some, None, IfSome}
+use Rattle.std.specs.Prelude.{◌≡◌, ◌⊎◌, ℕ, Bool, true, false, List, length, Option, Some}
+use Rattle.std.specs.Option.{option_map}
 use Rattle.fk_base.specs.declared.status.Status.{Status}
-use Rattle.fk_host.specs.Files.{bytes_of_file}
 use Rattle.fk_host.specs.Link.{Sends}
 use Rattle.fk_host.specs.Stream.{Takes}
-use Rattle.fk_base.specs.declared.file.TheConstants.{FILE_LIMIT}
 use Rattle.fk_log.specs.Printing.{SinkView}
 use Rattle.fk_conf.specs.FaultNames.{conf_fault_name}
 use Rattle.fk_conf.specs.RcFault.{rc_fault}
@@ -13,7 +12,6 @@ use Rattle.fk_conf.specs.ReadsWords.{IsWordErr, ReadsWords}
 use Rattle.fk_conf.specs.declared.command.Command.{Command}
 use Rattle.fk_conf.specs.declared.command.Command.TheVariants as command
 use Rattle.fk_conf.specs.declared.command.SendWords.{SendWords}
-use Rattle.fk_conf.specs.declared.conf_err.ConfWhat.{ConfWhat}
 use Rattle.fk_conf.specs.declared.rc_stanza.RcStanza.{RcStanza}
 use Rattle.fk_conf.specs.declared.tool.Tool.TheVariants.{Client}
 use Rattle.fk_conf.specs.declared.word_fault.WordFault.{WordFault}
@@ -22,16 +20,15 @@ use Rattle.fk_client.specs.declared.need_fault.NeedFault.{NeedFault}
 use Rattle.fk_client.specs.declared.sent.Packet.{Packet}
 use Rattle.fk_client.specs.declared.settled.Settings.{Settings}
 use Rattle.fk_client.specs.ClientText.{keys_text, need_name, sent_text, shown_text}
-use Rattle.fk_client.specs.Faults.{Fault, Tells, Shows, fault_of_words}
-use Rattle.fk_client.specs.Faults.Fault.{FileNotHeld, FileNotRead, WrongFile, LacksSetting, EntropyFails, LinkFails, WantsMemory}
-use Rattle.fk_client.specs.Outside.{FilesView, EntropyView, LinkView, Outside, refused, undrawn, unsent}
+use Rattle.fk_client.specs.Faults.{Fault, Tells}
+use Rattle.fk_client.specs.Faults.Fault.{Common, LacksSetting, EntropyFails, LinkFails}
+use Rattle.fk_client.specs.Outside.{EntropyView, LinkView, Outside, undrawn, unsent}
+use Rattle.fk_program.specs.Faults.{Fault as FileFault, fault_of_words}
+use Rattle.fk_program.specs.Faults.Fault.{WrongFile, WantsMemory}
+use Rattle.fk_program.specs.Files.{FailsFile, FilesView, HasText}
+use Rattle.fk_program.specs.Telling.{Shows}
 use Rattle.fk_client.specs.Sent.{IsSent}
 use Rattle.fk_client.specs.Settle.{Settles, need_fault}
-
--- this is the text of the file of this name, where the files tell; a file that is read is no longer than their limit
-pub record HasText (name : List ℕ) (files : FilesView) (text : List ℕ) : Type 0 where
-  pub within : length text ≤ FILE_LIMIT
-  pub held : IfSome files.held (λ held. bytes_of_file name held ≡ Some text)
 
 -- the file of this name has these stanzas
 pub record HasStanzas (name : List ℕ) (files : FilesView) (stanzas : List RcStanza) : Type 0 where
@@ -39,13 +36,9 @@ pub record HasStanzas (name : List ℕ) (files : FilesView) (stanzas : List RcSt
   pub read : HasText name files text
   pub says : ReadsRc text stanzas
 
--- the first wrong line of the file of this name
-pub record HasWrongLine (name : List ℕ) (files : FilesView) (line : ℕ) (what : List ℕ) : Type 0 where
-  pub text : List ℕ
-  pub read : HasText name files text
-  pub fault : ConfWhat
-  pub first : rc_fault text ≡ Some (line, fault)
-  pub named : what ≡ conf_fault_name fault
+-- the first fault of a text, told of the file of this name
+abbrev pub rc_test : List ℕ → List ℕ → Option FileFault
+rc_test name text = option_map (λ found. WrongFile name found.0 (conf_fault_name found.1)) (rc_fault text)
 
 -- the words and their file give these settings
 pub record HasSettings (send : SendWords) (files : FilesView) (settings : Settings) : Type 0 where
@@ -61,19 +54,11 @@ pub record LacksNeed (send : SendWords) (files : FilesView) (what : List ℕ) : 
   pub first : need_fault stanzas send ≡ Some fault
   pub named : what ≡ need_name fault
 
--- Why the file of this name has no stanzas: it is not held, or is and could not be read; or a line of it is wrong. Memory may be
--- wanting too.
-abbrev pub FailsToRead : List ℕ → Fault → FilesView → FilesView → Type 0
-FailsToRead name (FileNotHeld named) old new = (named ≡ name) × (new ≡ refused old) × IfSome old.held (λ held. bytes_of_file name held ≡ None)
-FailsToRead name (FileNotRead named) old new = (named ≡ name) × (new ≡ refused old) × IfSome old.held (λ held. bytes_of_file name held ≢ None)
-FailsToRead name (WrongFile named line what) old new = (named ≡ name) × (new ≡ old) × HasWrongLine name old line what
-FailsToRead name WantsMemory old new = new ≡ old
-FailsToRead name _ old new = ⊥
-
 -- why there are no settings: the file has no stanzas, or something is needed that it does not give
 abbrev pub FailsToSettle : SendWords → Fault → FilesView → FilesView → Type 0
+FailsToSettle send (Common fault) old new = FailsFile (rc_test send.file) send.file fault old new
 FailsToSettle send (LacksSetting named what) old new = (named ≡ send.file) × (new ≡ old) × LacksNeed send old what
-FailsToSettle send fault old new = FailsToRead send.file fault old new
+FailsToSettle send _ old new = ⊥
 
 -- so many bytes were drawn
 pub record Draws (count : ℕ) (drawn : List ℕ) (old new : EntropyView) : Type 0 where
@@ -122,7 +107,7 @@ Delivers false packet old new answer = SendsPacket packet old.link new.link old.
 
 -- memory was wanting, and nothing was sent or printed
 abbrev pub StopsShort : Outside → Outside → Status → Type 0
-StopsShort old new answer = (new.link ≡ old.link) × Tells WantsMemory old.sink new.sink answer
+StopsShort old new answer = (new.link ≡ old.link) × Tells (Common WantsMemory) old.sink new.sink answer
 
 -- what comes of 24 drawn bytes: their packet is delivered, or memory was wanting
 abbrev pub SendsDrawn : Bool → Settings → ℕ → List ℕ → Outside → Outside → Status → Type 0
@@ -143,7 +128,7 @@ RunsSend send moment old new answer =
 
 -- what comes of drawn bytes for new keys
 abbrev pub ShowsKeys : List ℕ → SinkView → SinkView → Status → Type 0
-ShowsKeys drawn sink printed answer = Tells WantsMemory sink printed answer ⊎ Shows (keys_text drawn) sink printed answer
+ShowsKeys drawn sink printed answer = Tells (Common WantsMemory) sink printed answer ⊎ Shows (keys_text drawn) sink printed answer
 
 -- new keys are made of 96 drawn bytes, or the entropy failed
 abbrev pub MakesKeys : EntropyView → EntropyView → SinkView → SinkView → Status → Type 0
@@ -165,7 +150,7 @@ pub record RefusesWords (words : List (List ℕ)) (old new : Outside) (answer : 
   pub fault : WordFault
   pub first : IsWordErr Client words fault
   pub only : OnlyPrints old new
-  pub told : Tells (fault_of_words fault) old.sink new.sink answer
+  pub told : Tells (Common (fault_of_words fault)) old.sink new.sink answer
 
 -- the words are a command, and it is done
 pub record ObeysWords (words : List (List ℕ)) (moment : ℕ) (old new : Outside) (answer : Status) : Type 0 where

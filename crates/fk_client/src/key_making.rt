@@ -5,10 +5,10 @@ ghost use Rattle.fk_client.specs.ClientText.{keys_text, padded_text, padding_of}
 ghost use Rattle.fk_client.specs.Outside.{entropy_by};
 ghost use Rattle.fk_client.specs.Running.{MakesKeys};
 
-use crate::printing::show_text;
 use crate::refusal::{Refusal, refuse};
 use fk_base::{Bytes, Failed, NoMemory, Status};
 use fk_host::{Entropy, Sink};
+use fk_program::show_text;
 use fk_text::put_text;
 use std::alloc::Global;
 
@@ -29,7 +29,7 @@ pub(crate) fn make_keys<N: Entropy, K: Sink>(alloc: Global, entropy: &mut N, out
     }
     match keys_text(alloc, &drawn) {
         Ok(text) => show_text(text.as_slice(), out),
-        Err(NoMemory) => refuse(Refusal::NoMemory, out),
+        Err(NoMemory) => fk_program::refuse(fk_program::Refusal::NoMemory, out),
     }
 }
 

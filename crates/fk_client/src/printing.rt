@@ -2,24 +2,18 @@
 ghost use Rattle.std.specs.Prelude.{◌≡◌, ◌++◌, ◌∷◌, [], Some, is_err};
 ghost use Rattle.std.specs.List.{flat_map};
 ghost use Rattle.fk_log.specs.Printing.{Prints, sink_by};
-ghost use Rattle.fk_client.specs.Faults.{Says, Shows, printed_status};
+ghost use Rattle.fk_program.specs.Telling.{Says, Shows};
 
 use fk_base::{Failed, Status};
 use fk_host::{Sink, write_all};
-
-/// Prints the text of what was done.
-pub(crate) fn show_text<K: Sink>(text: &[u8], out: &mut K) -> Status
-    ensures { let at = sink_by K.written K.faults in Shows text.now (at out.old) (at out.new) result }
-{
-    status_of(write_all(out, text))
-}
+use fk_program::printed_status;
 
 /// Prints the line of what was done.
 pub(crate) fn show_line<K: Sink>(pieces: &[&[u8]], out: &mut K) -> Status
     ensures { let at = sink_by K.written K.faults in
         Shows (flat_map (λ piece. piece.now) pieces.now ++ 10 ∷ []) (at out.old) (at out.new) result }
 {
-    status_of(write_line(pieces, out))
+    printed_status(write_line(pieces, out))
 }
 
 /// Prints the line of a fault, which hides that of the output.
@@ -39,13 +33,4 @@ fn write_line<K: Sink>(pieces: &[&[u8]], out: &mut K) -> Result<(), Failed>
         write_all(out, piece)?;
     }
     write_all(out, b"\n")
-}
-
-fn status_of(written: Result<(), Failed>) -> Status
-    ensures { result ≡ printed_status (is_err written) }
-{
-    match written {
-        Ok(()) => Status::Done,
-        Err(Failed) => Status::SinkFault,
-    }
 }

@@ -1,14 +1,15 @@
 //! The client's file, read and settled, or why there are no settings.
 ghost use Rattle.std.specs.Prelude.{◌≡◌, MatchResult};
-ghost use Rattle.fk_client.specs.Outside.{files_by};
 ghost use Rattle.fk_client.specs.Private.{fault_of};
-ghost use Rattle.fk_client.specs.Running.{FailsToRead, FailsToSettle, HasSettings, HasStanzas, HasText};
+ghost use Rattle.fk_client.specs.Running.{FailsToSettle, HasSettings, HasStanzas, rc_test};
+ghost use Rattle.fk_program.specs.Faults.{fault_of as file_fault_of};
+ghost use Rattle.fk_program.specs.Files.{FailsFile, files_by};
 
 use crate::refusal::{Refusal, need_name};
 use crate::{NeedFault, Settings, settings};
-use fk_base::Bytes;
 use fk_conf::{ConfErr, RcFile, SendWords, conf_fault_name, read_rc};
-use fk_host::{FileErr, Files};
+use fk_host::Files;
+use fk_program::read_text;
 use std::alloc::Global;
 
 /// The settings that the words and the file that they name give.
@@ -24,11 +25,11 @@ pub(crate) fn settings_by<'a, F: Files>(
     let name = words.file.as_slice();
     let file = match stanzas_of(alloc, name, files) {
         Ok(file) => file,
-        Err(refusal) => return Err(refusal),
+        Err(refusal) => return Err(Refusal::Common(refusal)),
     };
     match settings(alloc, &file, words) {
         Ok(found) => Ok(found),
-        Err(NeedFault::NoMemory) => Err(Refusal::NoMemory),
+        Err(NeedFault::NoMemory) => Err(Refusal::Common(fk_program::Refusal::NoMemory)),
         Err(fault) => Err(Refusal::Need {
             name,
             what: need_name(fault),
@@ -41,37 +42,22 @@ fn stanzas_of<'a, F: Files>(
     alloc: Global,
     name: &'a [u8],
     files: &mut F,
-) -> Result<RcFile, Refusal<'a>>
+) -> Result<RcFile, fk_program::Refusal<'a>>
     ensures { let at = files_by F.held F.faults in MatchResult result
         (λ stanzas. HasStanzas name.now (at files.old) stanzas × (at files.new ≡ at files.old))
-        (λ refusal. FailsToRead name.now (fault_of refusal) (at files.old) (at files.new)) }
+        (λ refusal. FailsFile (rc_test name.now) name.now (file_fault_of refusal) (at files.old) (at files.new)) }
 {
-    let text = match text_of(alloc, name, files) {
+    let text = match read_text(alloc, name, files) {
         Ok(text) => text,
         Err(refusal) => return Err(refusal),
     };
     match read_rc(alloc, text.as_slice()) {
         Ok(file) => Ok(file),
-        Err(ConfErr::Fault { line, what }) => Err(Refusal::BadFile {
+        Err(ConfErr::Fault { line, what }) => Err(fk_program::Refusal::BadFile {
             name,
             line,
             what: conf_fault_name(what),
         }),
-        Err(ConfErr::NoMemory) => Err(Refusal::NoMemory),
-    }
-}
-
-/// The text of the file of this name.
-fn text_of<'a, F: Files>(alloc: Global, name: &'a [u8], files: &mut F) -> Result<Bytes, Refusal<'a>>
-    ensures { let at = files_by F.held F.faults in MatchResult result
-        (λ text. HasText name.now (at files.old) text × (at files.new ≡ at files.old))
-        (λ refusal. FailsToRead name.now (fault_of refusal) (at files.old) (at files.new)) }
-{
-    let mut text = Bytes::new(alloc);
-    match files.read(name, &mut text) {
-        Ok(()) => Ok(text),
-        Err(FileErr::Missing) => Err(Refusal::Missing(name)),
-        Err(FileErr::Failed) => Err(Refusal::Failed(name)),
-        Err(FileErr::NoMemory) => Err(Refusal::NoMemory),
+        Err(ConfErr::NoMemory) => Err(fk_program::Refusal::NoMemory),
     }
 }

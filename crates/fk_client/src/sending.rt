@@ -62,7 +62,7 @@ fn draw_packet<'a, N: Entropy>(
     }
     match packet(alloc, settings, moment, &drawn) {
         Ok(packet) => Ok(packet),
-        Err(NoMemory) => Err(Refusal::NoMemory),
+        Err(NoMemory) => Err(Refusal::Common(fk_program::Refusal::NoMemory)),
     }
 }
 

@@ -8,8 +8,8 @@ use Rattle.fk_conf.specs.declared.word_fault.WordFault.{WordFault}
 use Rattle.fk_conf.specs.declared.word_fault.WordFault.TheVariants as word
 use Rattle.fk_conf.specs.ReadsWords.{IsWordErr, ReadsWords}
 use Rattle.fk_command.specs.World.{World, streams_of}
-use Rattle.fk_command.specs.Faults.{fault_status}
-use Rattle.fk_command.specs.Running.{Runs, RunsWords, fault_of_words}
+use Rattle.fk_program.specs.Faults.{fault_of_words, fault_status}
+use Rattle.fk_command.specs.Running.{Runs, RunsWords}
 use Rattle.fk_command.specs.Causes.{FailsByAnswer}
 use Rattle.fk_command.specs.Ready.{EndsWell, IsReadyFor, MeetsNoFault}
 use Rattle.fk_command.proofs.Ended.{IsCalm, NoneBoth, calm, list-ends, printed-ends, refused-ends, serving-ends}
@@ -34,8 +34,8 @@ runs-end (command.Encode file name) old new answer runs ready calm none tells = 
 runs-end (command.Decode file name) old new answer runs ready calm none tells = absurd runs
 runs-end command.Journal old new answer runs ready calm none tells = absurd runs
 runs-end (command.Generate count) old new answer runs ready calm none tells = absurd runs
-runs-end command.Help old new answer runs ready calm none tells = printed-ends runs.is_broken answer runs.answered calm
-runs-end command.Version old new answer runs ready calm none tells = printed-ends runs.is_broken answer runs.answered calm
+runs-end command.Help old new answer runs ready calm none tells = printed-ends runs.shows.is_broken answer runs.shows.answered calm
+runs-end command.Version old new answer runs ready calm none tells = printed-ends runs.shows.is_broken answer runs.shows.answered calm
 
 -- words ask for one command
 abbrev pub OneCommand : Type 0

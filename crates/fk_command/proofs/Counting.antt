@@ -1,76 +1,29 @@
 -- Which counts of faults rose, by the answer of a run.
-use Rattle.std.proofs.Common.{◌≡◌, ◌≢◌, ℕ, Bool, true, false, List, Option, refl, sym, ap, subst, inl, inr}
+use Rattle.std.proofs.Common.{◌≡◌, ◌≢◌, ℕ, Bool, true, false, List, refl, sym, ap, subst, inl, inr}
 use Rattle.fk_base.specs.declared.status.Status.{Status}
 use Rattle.fk_base.specs.declared.status.Status.TheVariants as status
 use Rattle.fk_run.specs.Run.{Ending}
 use Rattle.fk_run.specs.Run.Ending.{AtLimit, AtEnd, AtFeedFault, AtDiskFault, AtWantOfMemory, AtBadLine, AtLongInput, AtReadFault}
 use Rattle.fk_log.specs.declared.verbosity.Verbosity.{Verbosity}
 use Rattle.fk_log.specs.Causes.{FailsOnlyAs, FailsSink}
-use Rattle.fk_log.specs.Printing.{SinkView, Prints}
+use Rattle.fk_log.specs.Printing.{SinkView}
 use Rattle.fk_child.specs.View.{View}
 use Rattle.fk_daemon.specs.declared.task.Task.{Task}
 use Rattle.fk_daemon.specs.Outside.{FeedView, Outside}
 use Rattle.fk_daemon.specs.Serving.{HasStatus, Serves, SaysWhyUnopened}
-use Rattle.fk_conf.specs.declared.word_fault.WordFault.{WordFault}
-use Rattle.fk_conf.specs.declared.word_fault.WordFault.TheVariants as word
 use Rattle.fk_trial.specs.Streams.{SourceView}
-use Rattle.fk_command.specs.World.{FilesView, World, LeavesRest, SaysTheSame}
-use Rattle.fk_command.specs.Faults.{Fault, Says, Tells, fault_line, fault_status}
-use Rattle.fk_command.specs.Faults.Fault.{WrongWords, FileNotHeld, FileNotRead, WrongFile, DiskFails, DamagedLedger, WantsMemory}
-use Rattle.fk_command.specs.Files.{Names, FailsFile, FailsFiles, conf_test, access_test}
-use Rattle.fk_command.specs.Listing.{printed_status}
+use Rattle.fk_command.specs.World.{World, LeavesRest, SaysTheSame}
+use Rattle.fk_program.specs.Faults.{Fault, Tells, fault_of_words, fault_status}
+use Rattle.fk_program.specs.Files.{FilesView}
+use Rattle.fk_program.proofs.Counting.{Blames, fault-blames, file-count, shown-blames, shows-sink, tells-sink, words-spare-files}
+use Rattle.fk_command.specs.Files.{Names, FailsFiles, conf_test, access_test}
 use Rattle.fk_command.specs.Causes.{FailsByAnswer}
 use Rattle.fk_command.specs.Private.{served_in}
-use Rattle.fk_command.specs.Running.{PrintsOnly, RefusesFiles, RefusesWords, fault_of_words}
-use Rattle.fk_command.proofs.Saying.{said-once}
-
--- an answer that is none of the four faults of an object
-pub record Blames (answer : Status) : Type 0 where
-  pub feed : answer ≢ status.FeedFault
-  pub disk : answer ≢ status.DiskFault
-  pub input : answer ≢ status.ReadFault
-
--- the output's count after a fault was told
-told-sink : (fault : Fault) (old new : SinkView) → Says (fault_line fault) old new → FailsSink (fault_status fault) old.faults new.faults
-told-sink (WrongWords why) old new says = said-once (fault_line (WrongWords why)) old new says
-told-sink (FileNotHeld name) old new says = said-once (fault_line (FileNotHeld name)) old new says
-told-sink (FileNotRead name) old new says = said-once (fault_line (FileNotRead name)) old new says
-told-sink (WrongFile name line what) old new says = said-once (fault_line (WrongFile name line what)) old new says
-told-sink DiskFails old new says = said-once (fault_line DiskFails) old new says
-told-sink (DamagedLedger place) old new says = said-once (fault_line (DamagedLedger place)) old new says
-told-sink WantsMemory old new says = said-once (fault_line WantsMemory) old new says
-
-pub tells-sink : (fault : Fault) (old new : SinkView) (answer : Status) → Tells fault old new answer → FailsSink answer old.faults new.faults
-tells-sink fault old new answer tells = subst (λ (a : Status). FailsSink a old.faults new.faults) (sym tells.answered) (told-sink fault old new tells.said)
-
--- the output's count after a text was printed
-pub prints-sink : (is_broken : Bool) (text : List ℕ) (old new : SinkView) (answer : Status) → Prints text is_broken old new → answer ≡ printed_status is_broken
-    → FailsSink answer old.faults new.faults
-prints-sink false text old new answer prints is = subst (λ (a : Status). FailsSink a old.faults new.faults) (sym is) prints.1
-prints-sink true text old new answer prints is = subst (λ (a : Status). FailsSink a old.faults new.faults) (sym is) prints.1
+use Rattle.fk_command.specs.Running.{PrintsOnly, RefusesFiles, RefusesWords}
 
 -- a count stands still, and the answer is not its fault
 pub still : (fault answer : Status) (old new : ℕ) → answer ≢ fault → new ≡ old → FailsOnlyAs fault answer old new
 still fault answer old new not same = inr (not, same)
-
-file-count : (test : List ℕ → Option Fault) (name : List ℕ) (fault : Fault) (old new : FilesView) → FailsFile test name fault old new
-    → FailsOnlyAs status.FileFault (fault_status fault) old.faults new.faults
-file-count test name (FileNotHeld named) old new fails = inl (refl, ap (λ (files : FilesView). files.faults) fails.1)
-file-count test name (FileNotRead named) old new fails = inl (refl, ap (λ (files : FilesView). files.faults) fails.1)
-file-count test name (WrongFile named line what) old new fails = inr (λ e. cc, ap (λ (files : FilesView). files.faults) fails.0)
-file-count test name WantsMemory old new fails = inr (λ e. cc, ap (λ (files : FilesView). files.faults) fails)
-file-count test name (WrongWords why) old new fails = absurd fails
-file-count test name DiskFails old new fails = absurd fails
-file-count test name (DamagedLedger place) old new fails = absurd fails
-
-file-blames : (test : List ℕ → Option Fault) (name : List ℕ) (fault : Fault) (old new : FilesView) → FailsFile test name fault old new → Blames (fault_status fault)
-file-blames test name (FileNotHeld named) old new fails = record { feed = λ e. cc; disk = λ e. cc; input = λ e. cc }
-file-blames test name (FileNotRead named) old new fails = record { feed = λ e. cc; disk = λ e. cc; input = λ e. cc }
-file-blames test name (WrongFile named line what) old new fails = record { feed = λ e. cc; disk = λ e. cc; input = λ e. cc }
-file-blames test name WantsMemory old new fails = record { feed = λ e. cc; disk = λ e. cc; input = λ e. cc }
-file-blames test name (WrongWords why) old new fails = absurd fails
-file-blames test name DiskFails old new fails = absurd fails
-file-blames test name (DamagedLedger place) old new fails = absurd fails
 
 pub files-count : (names : Names) (fault : Fault) (old new : FilesView) → FailsFiles names fault old new → FailsOnlyAs status.FileFault (fault_status fault) old.faults new.faults
 files-count names fault old new fails =
@@ -79,18 +32,11 @@ files-count names fault old new fails =
       | inr access ↦ file-count (access_test names.access) names.access fault old new access.fails
     ]
 
-pub files-blame : (names : Names) (fault : Fault) (old new : FilesView) → FailsFiles names fault old new → Blames (fault_status fault)
-files-blame names fault old new fails =
-    elim fails [
-      | inl conf ↦ file-blames (conf_test names.conf) names.conf fault old new conf
-      | inr access ↦ file-blames (access_test names.access) names.access fault old new access.fails
-    ]
-
 -- the counts after the fault of a file was told
 pub files-told : (names : Names) (fault : Fault) (answer : Status) (old new : World) → FailsFiles names fault old.files new.files → LeavesRest old new
     → Tells fault old.outside.sink new.outside.sink answer → FailsByAnswer answer old new
 files-told names fault answer old new fails rest tells =
-    let blames : Blames answer = subst Blames (sym tells.answered) (files-blame names fault old.files new.files fails) in
+    let blames : Blames answer = subst Blames (sym tells.answered) (fault-blames fault) in
     record {
       files = subst (λ (a : Status). FailsOnlyAs status.FileFault a old.files.faults new.files.faults) (sym tells.answered) (files-count names fault old.files new.files fails);
       feed = inr (blames.feed, ap (λ (feed : FeedView). feed.faults) rest.feed);
@@ -167,34 +113,22 @@ served-counts task answer input old new before after kept serves feed disk outpu
     }
 
 -- what printing a text leaves of the counts
-printed-blames : (is_broken : Bool) (answer : Status) → answer ≡ printed_status is_broken → (answer ≢ status.FileFault) × Blames answer
-printed-blames false answer is = (λ e. let f = is in cc, record { feed = λ e. let f = is in cc; disk = λ e. let f = is in cc; input = λ e. let f = is in cc })
-printed-blames true answer is = (λ e. let f = is in cc, record { feed = λ e. let f = is in cc; disk = λ e. let f = is in cc; input = λ e. let f = is in cc })
-
 pub printed-counts : (text : List ℕ) (old new : World) (answer : Status) → PrintsOnly text old new answer → FailsByAnswer answer old new
 printed-counts text old new answer prints =
-    let not = printed-blames prints.is_broken answer prints.answered in
+    let not = shown-blames prints.shows.is_broken answer prints.shows.answered in
     record {
       files = inr (not.0, ap (λ (files : FilesView). files.faults) prints.files);
       feed = inr (not.1.feed, ap (λ (feed : FeedView). feed.faults) prints.rest.feed);
       disk = inr (not.1.disk, prints.rest.host.faults);
       input = inr (not.1.input, ap (λ (input : SourceView). input.faults) prints.rest.input);
-      output = prints-sink prints.is_broken text old.outside.sink new.outside.sink answer prints.printed prints.answered;
+      output = shows-sink text old.outside.sink new.outside.sink answer prints.shows;
     }
 
 -- what words that are refused leave of the counts
-word-blames : (fault : WordFault) → (fault_status (fault_of_words fault) ≢ status.FileFault) × Blames (fault_status (fault_of_words fault))
-word-blames (word.Unknown place) = (λ e. cc, record { feed = λ e. cc; disk = λ e. cc; input = λ e. cc })
-word-blames (word.NoValue place) = (λ e. cc, record { feed = λ e. cc; disk = λ e. cc; input = λ e. cc })
-word-blames (word.Twice place) = (λ e. cc, record { feed = λ e. cc; disk = λ e. cc; input = λ e. cc })
-word-blames (word.BadValue place) = (λ e. cc, record { feed = λ e. cc; disk = λ e. cc; input = λ e. cc })
-word-blames word.Modes = (λ e. cc, record { feed = λ e. cc; disk = λ e. cc; input = λ e. cc })
-word-blames word.NoMemory = (λ e. cc, record { feed = λ e. cc; disk = λ e. cc; input = λ e. cc })
-
 pub words-counts : (words : List (List ℕ)) (old new : World) (answer : Status) → RefusesWords words old new answer → FailsByAnswer answer old new
 words-counts words old new answer refuses =
     let not : (answer ≢ status.FileFault) × Blames answer =
-    subst (λ (a : Status). (a ≢ status.FileFault) × Blames a) (sym refuses.tells.answered) (word-blames refuses.fault) in
+    subst (λ (a : Status). (a ≢ status.FileFault) × Blames a) (sym refuses.tells.answered) (words-spare-files refuses.fault, fault-blames (fault_of_words refuses.fault)) in
     record {
       files = inr (not.0, ap (λ (files : FilesView). files.faults) refuses.files);
       feed = inr (not.1.feed, ap (λ (feed : FeedView). feed.faults) refuses.rest.feed);

@@ -21,12 +21,16 @@ use Rattle.fk_daemon.specs.Serving.{HasStatus, Serves, SaysWhyUnopened}
 use Rattle.fk_conf.specs.ConfErr.{conf_fault}
 use Rattle.fk_conf.specs.FaultNames.{conf_fault_name}
 use Rattle.fk_access.specs.AccessFault.{access_fault}
-use Rattle.fk_command.specs.World.{FilesView, World}
+use Rattle.fk_journal.specs.declared.fault.JournalErr.{JournalErr}
+use Rattle.fk_journal.specs.declared.fault.JournalErr.TheVariants as journal
+use Rattle.fk_program.specs.Faults.{Fault, fault_status}
+use Rattle.fk_program.specs.Faults.Fault.{WrongWords, FileNotHeld, FileNotRead, WrongFile, WantsMemory}
+use Rattle.fk_program.specs.Files.{FailsFile, FilesView}
+use Rattle.fk_program.specs.Telling.{printed_status}
+use Rattle.fk_command.specs.World.{World}
 use Rattle.fk_command.specs.FaultNames.{access_fault_name}
-use Rattle.fk_command.specs.Faults.{Fault, fault_status}
-use Rattle.fk_command.specs.Faults.Fault.{WrongWords, FileNotHeld, FileNotRead, WrongFile, DiskFails, DamagedLedger, WantsMemory}
-use Rattle.fk_command.specs.Files.{Names, FailsFile, FailsFiles}
-use Rattle.fk_command.specs.Listing.{Lists, FailsToView, printed_status}
+use Rattle.fk_command.specs.Files.{Names, FailsFiles}
+use Rattle.fk_command.specs.Listing.{Lists, FailsToView, view_status}
 use Rattle.fk_command.specs.Running.{RefusesFiles}
 use Rattle.fk_command.specs.Causes.{FailsByAnswer}
 use Rattle.fk_command.specs.Ready.{CountsNone, EndsWell, HoldsRight, HoldsSome}
@@ -130,8 +134,6 @@ file-ends test f name (WrongFile named line what) old new fails right calm =
     absurd (none-told f (test fails.1.0) (WrongFile named line what) (right-text test name fails.1.0 old.held fails.1.1.held right) fails.1.2)
 file-ends test f name WantsMemory old new fails right calm = inr refl
 file-ends test f name (WrongWords why) old new fails right calm = absurd fails
-file-ends test f name DiskFails old new fails right calm = absurd fails
-file-ends test f name (DamagedLedger place) old new fails right calm = absurd fails
 
 -- no fault of a file is told
 pub files-end : (names : Names) (fault : Fault) (old new : FilesView) → FailsFiles names fault old new → HoldsRight conf_fault names.conf old
@@ -152,20 +154,16 @@ pub printed-ends : (is_broken : Bool) (answer : Status) → answer ≡ printed_s
 printed-ends false answer is calm = inl is
 printed-ends true answer is calm = absurd (calm.output is)
 
-view-ends : (fault : Fault) (answer : Status) (old new : View) → FailsToView fault old new → answer ≡ fault_status fault → IsCalm answer → NoneBoth
+view-ends : (why : JournalErr) (answer : Status) (old new : View) → FailsToView why old new → answer ≡ view_status why → IsCalm answer → NoneBoth
     → HoldsSome old.told → IsSome new.told → EndsWell answer
-view-ends DiskFails answer old new fails is calm none holds tells = absurd (calm.disk is)
-view-ends (DamagedLedger place) answer old new fails is calm none holds tells = absurd (not_damaged old.told new.told place none holds tells fails.0)
-view-ends WantsMemory answer old new fails is calm none holds tells = inr is
-view-ends (FileNotHeld name) answer old new fails is calm none holds tells = absurd fails
-view-ends (FileNotRead name) answer old new fails is calm none holds tells = absurd fails
-view-ends (WrongFile name line what) answer old new fails is calm none holds tells = absurd fails
-view-ends (WrongWords why) answer old new fails is calm none holds tells = absurd fails
+view-ends journal.Disk answer old new fails is calm none holds tells = absurd (calm.disk is)
+view-ends (journal.Damaged place) answer old new fails is calm none holds tells = absurd (not_damaged old.told new.told place none holds tells fails.0)
+view-ends journal.NoMemory answer old new fails is calm none holds tells = inr is
 
 pub list-ends : (old new : World) (answer : Status) → Lists old new answer → IsCalm answer → NoneBoth → HoldsSome old.outside.host.told
     → IsSome new.outside.host.told → EndsWell answer
 list-ends old new answer lists calm none holds tells =
     elim lists.came [
-      | inl listed ↦ printed-ends listed.is_broken answer listed.answered calm
+      | inl listed ↦ printed-ends listed.shows.is_broken answer listed.shows.answered calm
       | inr nothing ↦ view-ends nothing.fault answer old.outside.host new.outside.host nothing.fails nothing.tells.answered calm none holds tells
     ]

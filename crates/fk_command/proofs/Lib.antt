@@ -1,4 +1,3 @@
-pub mod Saying
 pub mod Counting
 pub mod Listed
 pub mod Ended

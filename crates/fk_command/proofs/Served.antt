@@ -12,7 +12,8 @@ use Rattle.fk_daemon.specs.declared.task.Task.{Task}
 use Rattle.fk_daemon.specs.Outside.{Outside}
 use Rattle.fk_daemon.specs.Serving.{Serves}
 use Rattle.fk_trial.specs.Streams.{SourceView}
-use Rattle.fk_command.specs.World.{FilesView, World}
+use Rattle.fk_program.specs.Files.{FilesView}
+use Rattle.fk_command.specs.World.{World}
 use Rattle.fk_command.specs.Files.{Names, ReadsFiles}
 use Rattle.fk_command.specs.Private.{served_in}
 use Rattle.fk_command.specs.Running.{RefusesFiles, Runs, ServesByFiles, serving_verbosity}

@@ -23,7 +23,8 @@ use Rattle.fk_command.specs.Files.{Names, ReadsFiles}
 use Rattle.fk_command.specs.Private.{Bench, TellsFiles, TriesFiles, bench, listed_in}
 use Rattle.fk_command.specs.Ready.{EndsWell, HoldsTurns}
 use Rattle.fk_command.specs.Running.{RefusesFiles, Runs, TriesByFiles, trying_verbosity}
-use Rattle.fk_command.specs.World.{FilesView, World}
+use Rattle.fk_program.specs.Files.{FilesView}
+use Rattle.fk_command.specs.World.{World}
 use Rattle.fk_command.proofs.Counting.{same-host}
 use Rattle.fk_command.proofs.Ended.{IsCalm}
 

@@ -1,6 +1,5 @@
 pub mod World
 pub mod FaultNames
-pub mod Faults
 pub mod Files
 pub mod Listing
 pub mod Running

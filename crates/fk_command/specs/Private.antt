@@ -18,24 +18,13 @@ use Rattle.fk_child.specs.View.{View, view_of}
 use Rattle.fk_log.specs.Printing.{SinkView, sink_by}
 use Rattle.fk_daemon.specs.Outside.{FeedView, Outside}
 use Rattle.fk_command.specs.declared.files.FileNames.{FileNames}
-use Rattle.fk_command.specs.declared.refusal.Refusal.{Refusal}
-use Rattle.fk_command.specs.declared.refusal.Refusal.TheVariants as refusal
 use Rattle.fk_trial.specs.declared.task.TrialTask.{TrialTask}
 use Rattle.fk_trial.specs.Streams.{SourceView, Streams, source_by, streams_by}
 use Rattle.fk_trial.specs.Trial.{Tries}
-use Rattle.fk_command.specs.World.{FilesView, World, files_by, outside_of}
-use Rattle.fk_command.specs.Faults.{Fault, Tells}
-use Rattle.fk_command.specs.Faults.Fault.{WrongWords, FileNotHeld, FileNotRead, WrongFile, DiskFails, DamagedLedger, WantsMemory}
+use Rattle.fk_program.specs.Faults.{Fault, Tells}
+use Rattle.fk_program.specs.Files.{FilesView, files_by}
+use Rattle.fk_command.specs.World.{World, outside_of}
 use Rattle.fk_command.specs.Files.{Names, ReadsFiles, FailsFiles}
-
-abbrev pub fault_of : Refusal → Fault
-fault_of (refusal.Words fault) = WrongWords fault
-fault_of (refusal.Missing name) = FileNotHeld name.now
-fault_of (refusal.Failed name) = FileNotRead name.now
-fault_of (refusal.BadFile name line what) = WrongFile name.now line what.now
-fault_of refusal.Disk = DiskFails
-fault_of (refusal.Damaged place) = DamagedLedger place
-fault_of refusal.NoMemory = WantsMemory
 
 abbrev pub names_of : FileNames → Names
 names_of names = record { conf = names.conf.now; access = names.access.now }

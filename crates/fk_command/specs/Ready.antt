@@ -16,7 +16,8 @@ use Rattle.fk_access.specs.AccessFault.{access_fault}
 use Rattle.fk_ledger.specs.Holds.{HoldsLedger}
 use Rattle.fk_input.specs.Lines.{pieces}
 use Rattle.fk_trial.specs.Lines.{ReadsTurns}
-use Rattle.fk_command.specs.World.{FilesView, World}
+use Rattle.fk_program.specs.Files.{FilesView}
+use Rattle.fk_command.specs.World.{World}
 
 -- a file of this name is held, and its text has no fault by this test
 abbrev pub HoldsRight : {X : Type 0} → (List ℕ → Option X) → List ℕ → FilesView → Type 0

@@ -4,24 +4,21 @@ use Rattle.fk_base.specs.declared.status.Status.{Status}
 use Rattle.fk_run.specs.declared.limits.Limits.{Limits}
 use Rattle.fk_log.specs.declared.verbosity.Verbosity.{Verbosity}
 use Rattle.fk_log.specs.declared.verbosity.Verbosity.TheVariants as verbosity
-use Rattle.fk_log.specs.declared.usage_fault.UsageFault.TheVariants as usage
 use Rattle.fk_conf.specs.declared.command.Command.{Command}
 use Rattle.fk_conf.specs.declared.command.Command.TheVariants as command
 use Rattle.fk_conf.specs.declared.tool.Tool.TheVariants.{Daemon}
 use Rattle.fk_conf.specs.declared.word_fault.WordFault.{WordFault}
-use Rattle.fk_conf.specs.declared.word_fault.WordFault.TheVariants as word
 use Rattle.fk_conf.specs.ReadsWords.{ReadsWords, IsWordErr}
 use Rattle.fk_daemon.specs.declared.task.Task.{Task}
-use Rattle.fk_log.specs.Printing.{Prints}
 use Rattle.fk_daemon.specs.Serving.{Serves}
 use Rattle.fk_trial.specs.declared.task.TrialTask.{TrialTask}
 use Rattle.fk_trial.specs.Trial.{Tries}
 use Rattle.fk_command.specs.declared.help.TheConstants.{HELP, VERSION}
 use Rattle.fk_command.specs.World.{World, LeavesRest, SaysTheSame, streams_of}
-use Rattle.fk_command.specs.Faults.{Fault, Tells}
-use Rattle.fk_command.specs.Faults.Fault.{WrongWords, WantsMemory}
 use Rattle.fk_command.specs.Files.{Names, ReadsFiles, FailsFiles}
-use Rattle.fk_command.specs.Listing.{Lists, printed_status}
+use Rattle.fk_command.specs.Listing.{Lists}
+use Rattle.fk_program.specs.Faults.{Fault, Tells, fault_of_words}
+use Rattle.fk_program.specs.Telling.{Shows}
 
 -- both files were read, and the feed's turns were served by them under these limits
 pub record ServesByFiles (names : Names) (limits : Limits) (verbosity : Verbosity) (old new : World) (answer : Status) : Type 0 where
@@ -43,9 +40,7 @@ pub record RefusesFiles (names : Names) (old new : World) (answer : Status) : Ty
 pub record PrintsOnly (text : List ℕ) (old new : World) (answer : Status) : Type 0 where
   pub files : new.files ≡ old.files
   pub rest : LeavesRest old new
-  pub is_broken : Bool
-  pub printed : Prints text is_broken old.outside.sink new.outside.sink
-  pub answered : answer ≡ printed_status is_broken
+  pub shows : Shows text old.outside.sink new.outside.sink answer
 
 -- both files were read, and the lines of the input were tried by them; nothing was asked of the feed and the host
 pub record TriesByFiles (names : Names) (verbosity : Verbosity) (old new : World) (answer : Status) : Type 0 where
@@ -88,15 +83,6 @@ pub record RunsCommand (words : List (List ℕ)) (old new : World) (answer : Sta
   pub command : Command
   pub reads : ReadsWords Daemon words command
   pub runs : Runs command old new answer
-
--- the fault of words, as it is told
-abbrev pub fault_of_words : WordFault → Fault
-fault_of_words (word.Unknown place) = WrongWords (usage.Unknown place)
-fault_of_words (word.NoValue place) = WrongWords (usage.NoValue place)
-fault_of_words (word.Twice place) = WrongWords (usage.Twice place)
-fault_of_words (word.BadValue place) = WrongWords (usage.BadValue place)
-fault_of_words word.Modes = WrongWords usage.Modes
-fault_of_words word.NoMemory = WantsMemory
 
 -- the words have no command, or no memory was had for one, and nothing but the output was asked
 pub record RefusesWords (words : List (List ℕ)) (old new : World) (answer : Status) : Type 0 where

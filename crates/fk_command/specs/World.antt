@@ -1,30 +1,22 @@
 -- What the objects that a run of the program is handed say of themselves.
-use Rattle.std.specs.Prelude.{◌≡◌, ◌↔◌, ℕ, List, Option}
+use Rattle.std.specs.Prelude.{◌≡◌, ◌↔◌, ℕ}
 use Rattle.fk_host.specs.declared.disk.Disk.{Ghosts as DiskMeaning}
 use Rattle.fk_host.specs.declared.feed.Feed.{Ghosts as FeedMeaning}
 use Rattle.fk_host.specs.declared.files.Files.{Ghosts as FilesMeaning}
-use Rattle.fk_host.specs.declared.files.HeldFile.{HeldFile}
 use Rattle.fk_host.specs.declared.stream.Sink.{Ghosts as SinkMeaning}
 use Rattle.fk_host.specs.declared.stream.Source.{Ghosts as SourceMeaning}
 use Rattle.fk_host.specs.Disk.{Areas}
 use Rattle.fk_log.specs.Printing.{sink_by}
 use Rattle.fk_child.specs.View.{View, view_of}
 use Rattle.fk_daemon.specs.Outside.{Outside, feed_by, outside_by}
+use Rattle.fk_program.specs.Files.{FilesView, files_by}
 use Rattle.fk_trial.specs.Streams.{SourceView, Streams, source_by}
-
-pub record FilesView : Type 0 where
-  -- what is held, where they tell
-  pub held : Option (List HeldFile)
-  pub faults : ℕ
 
 pub record World : Type 1 where
   pub files : FilesView
   pub input : SourceView
   -- the feed, the host and the output
   pub outside : Outside
-
-abbrev pub files_by : {F : Type 0} → (F → Option (List HeldFile)) → (F → ℕ) → F → FilesView
-files_by held faults files = record { held = held files; faults = faults files }
 
 -- all together, of the objects by what they mean
 abbrev pub world_by : {F E H I K : Type 0} → (F → FilesView) → (E → H → K → Outside) → (I → SourceView) → F → E → H → I → K → World

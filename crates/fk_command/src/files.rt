@@ -1,16 +1,16 @@
 //! The two files, each read and understood, or the first fault of them.
-ghost use Rattle.std.specs.Prelude.{◌≡◌, List, ℕ, Option, MatchResult};
-ghost use Rattle.fk_command.specs.Faults.{Fault};
-ghost use Rattle.fk_command.specs.Files.{FailsFile, FailsFiles, HasAccess, HasConf, HasText, ReadsFiles, access_test, conf_test};
-ghost use Rattle.fk_command.specs.Private.{fault_of, names_of};
-ghost use Rattle.fk_command.specs.World.{files_by};
+ghost use Rattle.std.specs.Prelude.{◌≡◌, MatchResult};
+ghost use Rattle.fk_command.specs.Files.{FailsFiles, HasAccess, HasConf, ReadsFiles, access_test, conf_test};
+ghost use Rattle.fk_command.specs.Private.{names_of};
+ghost use Rattle.fk_program.specs.Faults.{fault_of};
+ghost use Rattle.fk_program.specs.Files.{FailsFile, files_by};
 
 use crate::fault_names::access_fault_name;
-use crate::refusal::Refusal;
 use fk_access::{Access, AccessErr, read_access};
 use fk_base::Bytes;
 use fk_conf::{Conf, ConfErr, conf_fault_name, read_conf};
-use fk_host::{FileErr, Files};
+use fk_host::Files;
+use fk_program::{Refusal, read_text};
 use std::alloc::Global;
 
 /// The names of the two files.
@@ -63,7 +63,7 @@ fn conf_of<'a, F: Files>(alloc: Global, name: &'a [u8], files: &mut F) -> Result
         (λ conf. HasConf name.now (at files.old) conf × (at files.new ≡ at files.old))
         (λ refusal. FailsFile (conf_test name.now) name.now (fault_of refusal) (at files.old) (at files.new)) }
 {
-    let text = match text_of(alloc, name, files) {
+    let text = match read_text(alloc, name, files) {
         Ok(text) => text,
         Err(refusal) => return Err(refusal),
     };
@@ -88,7 +88,7 @@ fn access_of<'a, F: Files>(
         (λ stanzas. HasAccess name.now (at files.old) stanzas × (at files.new ≡ at files.old))
         (λ refusal. FailsFile (access_test name.now) name.now (fault_of refusal) (at files.old) (at files.new)) }
 {
-    let text = match text_of(alloc, name, files) {
+    let text = match read_text(alloc, name, files) {
         Ok(text) => text,
         Err(refusal) => return Err(refusal),
     };
@@ -100,20 +100,5 @@ fn access_of<'a, F: Files>(
             what: access_fault_name(what),
         }),
         Err(AccessErr::NoMemory) => Err(Refusal::NoMemory),
-    }
-}
-
-/// The text of the file of this name.
-fn text_of<'a, F: Files>(alloc: Global, name: &'a [u8], files: &mut F) -> Result<Bytes, Refusal<'a>>
-    ensures { let at = files_by F.held F.faults in MatchResult result
-        (λ text. HasText name.now (at files.old) text × (at files.new ≡ at files.old))
-        (λ refusal. (test : List ℕ → Option Fault) → FailsFile test name.now (fault_of refusal) (at files.old) (at files.new)) }
-{
-    let mut text = Bytes::new(alloc);
-    match files.read(name, &mut text) {
-        Ok(()) => Ok(text),
-        Err(FileErr::Missing) => Err(Refusal::Missing(name)),
-        Err(FileErr::Failed) => Err(Refusal::Failed(name)),
-        Err(FileErr::NoMemory) => Err(Refusal::NoMemory),
     }
 }

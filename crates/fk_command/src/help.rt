@@ -1,10 +1,4 @@
 //! The texts that tell of the program itself.
-ghost use Rattle.std.specs.Prelude.{◌≡◌, Bool};
-ghost use Rattle.fk_log.specs.Printing.{Prints, sink_by};
-ghost use Rattle.fk_command.specs.Listing.{printed_status};
-
-use fk_base::Status;
-use fk_host::{Sink, write_all};
 
 /// What `--help` prints: at most 24 lines of at most 80 columns.
 pub(crate) const HELP: &[u8] = b"\
@@ -33,14 +27,3 @@ examples:
 
 /// What `--version` prints.
 pub(crate) const VERSION: &[u8] = b"fwknopd 3.0.0\n";
-
-/// Prints the text and nothing else.
-pub(crate) fn print<K: Sink>(text: &[u8], out: &mut K) -> Status
-    ensures { let at = sink_by K.written K.faults in
-        (is_broken : Bool) × Prints text.now is_broken (at out.old) (at out.new) × (result ≡ printed_status is_broken) }
-{
-    match write_all(out, text) {
-        Ok(()) => Status::Done,
-        Err(_) => Status::SinkFault,
-    }
-}

@@ -1,24 +1,26 @@
 //! The live records are listed.
-ghost use Rattle.std.specs.Prelude.{◌≡◌, ◌∷◌, [], Bool};
+ghost use Rattle.std.specs.Prelude.{◌≡◌, ◌∷◌, []};
 ghost use Rattle.std.specs.List.{list_any};
 ghost use Rattle.fk_log.specs.Writing.{Logs, output};
-ghost use Rattle.fk_log.specs.Printing.{Prints, sink_by};
+ghost use Rattle.fk_log.specs.Printing.{sink_by};
 ghost use Rattle.fk_command.specs.Causes.{FailsByAnswer};
-ghost use Rattle.fk_command.specs.Listing.{Lists, list_text, printed_status};
+ghost use Rattle.fk_command.specs.Listing.{Lists, list_text};
 ghost use Rattle.fk_command.specs.Private.{listed_lines, listed_of, settles};
-ghost use Rattle.fk_command.specs.World.{FilesView};
+ghost use Rattle.fk_program.specs.Files.{FilesView};
+ghost use Rattle.fk_program.specs.Telling.{Shows};
 ghost use Rattle.fk_trial.specs.Streams.{SourceView};
 ghost use Rattle.fk_daemon.specs.Outside.{FeedView};
 
-use crate::refusal::{Refusal, refuse};
 use fk_base::Status;
 use fk_host::{Host, Sink};
 use fk_ledger::{Ledger, LedgerErr};
 use fk_log::{LogItem, LogWriter, Verbosity, adjoining_lines_log_both, no_lines_log_nothing};
+use fk_program::say;
 use fk_trace::Change;
 use std::alloc::Global;
 
-/// Prints the live records of the ledger that the disk holds. All memory is taken before the first line is written.
+/// Prints the live records of the ledger that the disk holds. All memory is taken before the first line is
+/// written; where it is wanting nothing is written.
 pub(crate) fn list_records<H: Host, K: Sink>(alloc: Global, host: &mut H, out: &mut K) -> Status
     ensures lists { let at = listed_of H.Disk K.Sink in (files : FilesView) (feed : FeedView) (input : SourceView)
         → Lists (at files feed input host.old out.old) (at files feed input host.new out.new) result }
@@ -27,16 +29,21 @@ pub(crate) fn list_records<H: Host, K: Sink>(alloc: Global, host: &mut H, out: &
 {
     match Ledger::view(alloc, host) {
         Ok(changes) => print_live(&changes, out),
-        Err(LedgerErr::Disk) => refuse(Refusal::Disk, out),
-        Err(LedgerErr::Damaged(place)) => refuse(Refusal::Damaged(place), out),
-        Err(LedgerErr::NoMemory) => refuse(Refusal::NoMemory, out),
+        Err(LedgerErr::Disk) => {
+            say(&LogItem::DiskFailed, out);
+            Status::DiskFault
+        }
+        Err(LedgerErr::Damaged(place)) => {
+            say(&LogItem::Damaged { place }, out);
+            Status::Damaged
+        }
+        Err(LedgerErr::NoMemory) => Status::NoMemory,
     }
 }
 
 /// Prints a line for each live record.
 fn print_live<K: Sink>(changes: &[Change], out: &mut K) -> Status
-    ensures { let at = sink_by K.written K.faults in
-        (is_broken : Bool) × Prints (list_text changes.now) is_broken (at out.old) (at out.new) × (result ≡ printed_status is_broken) }
+    ensures { let at = sink_by K.written K.faults in Shows (list_text changes.now) (at out.old) (at out.new) result }
 {
     no_lines_log_nothing();
     adjoining_lines_log_both();

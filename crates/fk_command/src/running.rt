@@ -6,9 +6,8 @@ ghost use Rattle.fk_command.specs.World.{world_of};
 ghost use Rattle.std.specs.Prelude.{◌≡◌};
 
 use crate::files::file_names;
-use crate::help::{HELP, VERSION, print};
+use crate::help::{HELP, VERSION};
 use crate::listing::list_records;
-use crate::refusal::{refusal_of_words, refuse};
 use crate::serving::{Asked, serve_by_files};
 use crate::trying::try_by_files;
 use fk_base::{Status, Words};
@@ -16,6 +15,7 @@ use fk_conf::{Command, Tool, daemon_words_ask_for_one_command, read_words};
 use fk_host::{Feed, Files, Host, Sink, Source};
 use fk_ledger::no_area_holds_two_ledgers;
 use fk_log::Verbosity;
+use fk_program::{refusal_of_words, refuse, show_text};
 use fk_run::Limits;
 use std::alloc::Global;
 
@@ -93,8 +93,8 @@ fn run_command<F: Files, E: Feed, H: Host, I: Source, K: Sink>(
             try_by_files(alloc, names, verbosity, files, input, out)
         }
         Command::List => list_records(alloc, host, out),
-        Command::Help => print(HELP, out),
-        Command::Version => print(VERSION, out),
+        Command::Help => show_text(HELP, out),
+        Command::Version => show_text(VERSION, out),
         Command::Send(_)
         | Command::KeyGen
         | Command::Encode { .. }

@@ -7,11 +7,11 @@ ghost use Rattle.fk_command.specs.Running.{RefusesFiles, ServesByFiles};
 ghost use Rattle.fk_trial.specs.Streams.{SourceView};
 
 use crate::files::{FileNames, Settings, read_files};
-use crate::refusal::refuse;
 use fk_base::Status;
 use fk_daemon::{Task, serve};
 use fk_host::{Feed, Files, Host, Sink};
 use fk_log::Verbosity;
+use fk_program::refuse;
 use fk_run::Limits;
 use fk_turn::Policy;
 use std::alloc::Global;

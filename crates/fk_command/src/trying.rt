@@ -4,10 +4,10 @@ ghost use Rattle.fk_log.specs.Causes.{FailsOnlyAs, FailsSink};
 ghost use Rattle.fk_command.specs.Private.{TellsFiles, TriesFiles, bench_of, names_of};
 
 use crate::files::{FileNames, Settings, read_files};
-use crate::refusal::refuse;
 use fk_base::Status;
 use fk_host::{Files, Sink, Source};
 use fk_log::Verbosity;
+use fk_program::refuse;
 use fk_trial::{TrialTask, trial};
 use fk_turn::Policy;
 use std::alloc::Global;

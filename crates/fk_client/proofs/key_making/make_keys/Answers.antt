@@ -1,6 +1,6 @@
 use Rattle.std.proofs.Common.{List, ℕ, inr, subst, ◌∙◌}
 use Rattle.fk_log.specs.Printing.{sink_by}
-use Rattle.fk_client.specs.Faults.{Shows}
+use Rattle.fk_program.specs.Telling.{Shows}
 use Rattle.fk_client.proofs.key_making.make_keys.Goals as goal
 
 pub returns-in-Ok : goal.returns-in-Ok

@@ -1,7 +1,7 @@
 use Rattle.std.proofs.Common.{inr, subst}
-use Rattle.fk_command.specs.Files.{FailsFile, access_test}
-use Rattle.fk_command.specs.Private.{fault_of}
-use Rattle.fk_command.specs.World.{FilesView, files_by}
+use Rattle.fk_program.specs.Faults.{fault_of}
+use Rattle.fk_program.specs.Files.{FailsFile, FilesView, files_by}
+use Rattle.fk_command.specs.Files.{access_test}
 use Rattle.fk_command.proofs.files.read_files.Goals as goal
 
 pub returns-in-Err-access_of : goal.returns-in-Err-access_of

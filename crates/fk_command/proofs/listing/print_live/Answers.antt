@@ -25,7 +25,7 @@ returns-then-is_broken g c =
     let prints = printed_all c.args.changes.now (take c.loop-change.change-index c.args.changes.now) (at c.args.out.now) (at c.loop-change.out) c.loop-change.log
     (take_all c.loop-change.change-index c.args.changes.now c.loop-change-test.false) c.loop-change.invariant in
     let broken : c.loop-change.log.is_broken ≡ true = cc in
-    (true, subst (λ (b : Bool). Prints (list_text c.args.changes.now) b (at c.args.out.now) (at c.loop-change.out)) broken prints, refl)
+    record { is_broken = true; printed = subst (λ (b : Bool). Prints (list_text c.args.changes.now) b (at c.args.out.now) (at c.loop-change.out)) broken prints; answered = refl }
 
 pub returns-else-is_broken : goal.returns-else-is_broken
 returns-else-is_broken g c =
@@ -33,4 +33,4 @@ returns-else-is_broken g c =
     let prints = printed_all c.args.changes.now (take c.loop-change.change-index c.args.changes.now) (at c.args.out.now) (at c.loop-change.out) c.loop-change.log
     (take_all c.loop-change.change-index c.args.changes.now c.loop-change-test.false) c.loop-change.invariant in
     let whole : c.loop-change.log.is_broken ≡ false = cc in
-    (false, subst (λ (b : Bool). Prints (list_text c.args.changes.now) b (at c.args.out.now) (at c.loop-change.out)) whole prints, refl)
+    record { is_broken = false; printed = subst (λ (b : Bool). Prints (list_text c.args.changes.now) b (at c.args.out.now) (at c.loop-change.out)) whole prints; answered = refl }

@@ -1,7 +1,7 @@
 use Rattle.std.proofs.Common.{refl, subst, inl, inr}
 use Rattle.fk_log.specs.Printing.{sink_by}
 use Rattle.fk_child.specs.View.{view_of}
-use Rattle.fk_command.specs.Faults.{Fault, Tells}
+use Rattle.fk_program.specs.Faults.{Fault, Tells}
 use Rattle.fk_command.specs.Running.{RefusesWords, RunsWords}
 use Rattle.fk_command.specs.World.{world_of}
 use Rattle.fk_command.proofs.Counting.{same-host, words-counts}

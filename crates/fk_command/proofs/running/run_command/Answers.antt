@@ -7,7 +7,8 @@ use Rattle.fk_daemon.specs.Outside.{feed_by}
 use Rattle.fk_command.specs.declared.help.TheConstants.{HELP, VERSION}
 use Rattle.fk_command.specs.Running.{PrintsOnly, Runs}
 use Rattle.fk_trial.specs.Streams.{source_by, streams_by}
-use Rattle.fk_command.specs.World.{files_by, world_of}
+use Rattle.fk_program.specs.Files.{files_by}
+use Rattle.fk_command.specs.World.{world_of}
 use Rattle.fk_command.proofs.Counting.{printed-counts, same-host}
 use Rattle.fk_command.specs.Private.{bench, names_of}
 use Rattle.fk_command.proofs.Served.{asked-serve, limits-are}
@@ -32,18 +33,16 @@ returns-in-Help g c =
     let at = world_of g.F.Files g.E.Feed g.H.Disk g.I.Source g.K.Sink in
     let view = view_of g.H.Disk.told g.H.Disk.may_leave g.H.Disk.faults g.H.Disk.above in
     let before = at c.args.files.now c.args.feed.now c.args.host.now c.args.input.now c.args.out.now in
-    let after = at c.args.files.now c.args.feed.now c.args.host.now c.args.input.now c.print.new.out in
-    let prints : PrintsOnly HELP.now before after c.print.result =
+    let after = at c.args.files.now c.args.feed.now c.args.host.now c.args.input.now c.show_text.new.out in
+    let prints : PrintsOnly HELP.now before after c.show_text.result =
     record {
       files = refl;
       rest = record { feed = refl; host = same-host (view c.args.host.now); input = refl };
-      is_broken = c.print.ensures.0;
-      printed = c.print.ensures.1;
-      answered = c.print.ensures.2;
+      shows = c.show_text.ensures;
     } in
     record {
-      runs = subst (λ (asked : Command). Runs asked before after c.print.result) (sym c.in-Help.is) prints;
-      counts = printed-counts HELP.now before after c.print.result prints;
+      runs = subst (λ (asked : Command). Runs asked before after c.show_text.result) (sym c.in-Help.is) prints;
+      counts = printed-counts HELP.now before after c.show_text.result prints;
     }
 
 pub returns-in-Version : goal.returns-in-Version
@@ -51,18 +50,16 @@ returns-in-Version g c =
     let at = world_of g.F.Files g.E.Feed g.H.Disk g.I.Source g.K.Sink in
     let view = view_of g.H.Disk.told g.H.Disk.may_leave g.H.Disk.faults g.H.Disk.above in
     let before = at c.args.files.now c.args.feed.now c.args.host.now c.args.input.now c.args.out.now in
-    let after = at c.args.files.now c.args.feed.now c.args.host.now c.args.input.now c.print-in-Version.new.out in
-    let prints : PrintsOnly VERSION.now before after c.print-in-Version.result =
+    let after = at c.args.files.now c.args.feed.now c.args.host.now c.args.input.now c.show_text-in-Version.new.out in
+    let prints : PrintsOnly VERSION.now before after c.show_text-in-Version.result =
     record {
       files = refl;
       rest = record { feed = refl; host = same-host (view c.args.host.now); input = refl };
-      is_broken = c.print-in-Version.ensures.0;
-      printed = c.print-in-Version.ensures.1;
-      answered = c.print-in-Version.ensures.2;
+      shows = c.show_text-in-Version.ensures;
     } in
     record {
-      runs = subst (λ (asked : Command). Runs asked before after c.print-in-Version.result) (sym c.in-Version.is) prints;
-      counts = printed-counts VERSION.now before after c.print-in-Version.result prints;
+      runs = subst (λ (asked : Command). Runs asked before after c.show_text-in-Version.result) (sym c.in-Version.is) prints;
+      counts = printed-counts VERSION.now before after c.show_text-in-Version.result prints;
     }
 
 pub returns-in-Serve : goal.returns-in-Serve

@@ -1,10 +1,12 @@
 use Rattle.std.proofs.Common.{inl, inr, subst, sym}
 use Rattle.fk_log.specs.Printing.{sink_by}
 use Rattle.fk_daemon.specs.Account.{AreLimits}
-use Rattle.fk_command.specs.Private.{fault_of, names_of, served_in}
+use Rattle.fk_command.specs.Private.{names_of, served_in}
 use Rattle.fk_command.specs.Running.{RefusesFiles}
 use Rattle.fk_trial.specs.Streams.{SourceView}
-use Rattle.fk_command.specs.World.{files_by, outside_of}
+use Rattle.fk_program.specs.Faults.{fault_of}
+use Rattle.fk_program.specs.Files.{files_by}
+use Rattle.fk_command.specs.World.{outside_of}
 use Rattle.fk_command.proofs.Counting.{refused-counts, refused-files, served-counts}
 use Rattle.fk_command.proofs.Served.{served}
 use Rattle.fk_command.proofs.serving.serve_by_files.Goals as goal

@@ -4,9 +4,11 @@ use Rattle.fk_base.specs.declared.status.Status.TheVariants as status
 use Rattle.fk_log.specs.Causes.{FailsOnlyAs}
 use Rattle.fk_log.specs.Printing.{sink_by}
 use Rattle.fk_trial.specs.Streams.{source_by, streams_by}
-use Rattle.fk_command.specs.Private.{fault_of, names_of}
-use Rattle.fk_command.specs.World.{FilesView, files_by}
-use Rattle.fk_command.proofs.Counting.{Blames, files-blame, files-count, tells-sink}
+use Rattle.fk_command.specs.Private.{names_of}
+use Rattle.fk_program.specs.Faults.{fault_of}
+use Rattle.fk_program.specs.Files.{FilesView, files_by}
+use Rattle.fk_program.proofs.Counting.{Blames, fault-blames, tells-sink}
+use Rattle.fk_command.proofs.Counting.{files-count}
 use Rattle.fk_command.proofs.Tried.{tried, trying-spares}
 use Rattle.fk_command.proofs.trying.try_by_files.Goals as goal
 
@@ -19,7 +21,7 @@ returns-in-Err g c =
     let names = names_of c.args.names in
     let fault = fault_of c.in-Err.refusal in
     let tells = c.refuse.ensures in
-    let blames = subst Blames (sym tells.answered) (files-blame names fault old new c.in-Err.ensures) in
+    let blames = subst Blames (sym tells.answered) (fault-blames fault) in
     record {
       tries = inr (record { fault = fault; fails = c.in-Err.ensures; input = refl; tells = tells });
       files = subst (λ (a : Status). FailsOnlyAs status.FileFault a old.faults new.faults) (sym tells.answered) (files-count names fault old new c.in-Err.ensures);

@@ -1,19 +1,17 @@
-//! Why a run comes to nothing, and the one line that says so.
-ghost use Rattle.std.specs.Prelude.{◌≡◌, Some};
-ghost use Rattle.fk_log.specs.Item.{line_of};
+//! Why a program comes to nothing for its words or a file, and the one line that says so.
+ghost use Rattle.std.specs.Prelude.{◌≡◌};
 ghost use Rattle.fk_log.specs.Printing.{sink_by};
-ghost use Rattle.fk_command.specs.Faults.{Says, Tells};
-ghost use Rattle.fk_command.specs.Running.{fault_of_words};
-ghost use Rattle.fk_command.specs.Private.{fault_of};
+ghost use Rattle.fk_program.specs.Faults.{Tells, fault_of, fault_of_words};
 
+use crate::say;
 use fk_base::Status;
 use fk_conf::WordFault;
 use fk_host::Sink;
-use fk_log::{LogItem, UsageFault, render};
+use fk_log::{LogItem, UsageFault};
 
-/// Why a run comes to nothing.
+/// Why a program comes to nothing for its words or a file.
 #[derive(Clone, Copy)]
-pub(crate) enum Refusal<'a> {
+pub enum Refusal<'a> {
     Words(UsageFault),
     /// The file of this name is not held.
     Missing(&'a [u8]),
@@ -25,14 +23,11 @@ pub(crate) enum Refusal<'a> {
         line: u32,
         what: &'static [u8],
     },
-    Disk,
-    /// The journal is damaged at this place.
-    Damaged(u64),
     NoMemory,
 }
 
 /// The refusal of words that are no command.
-pub(crate) fn refusal_of_words<'a>(fault: WordFault) -> Refusal<'a>
+pub fn refusal_of_words<'a>(fault: WordFault) -> Refusal<'a>
     ensures { fault_of result ≡ fault_of_words fault }
 {
     match fault {
@@ -46,7 +41,7 @@ pub(crate) fn refusal_of_words<'a>(fault: WordFault) -> Refusal<'a>
 }
 
 /// Says the refusal. Where memory is wanting nothing is written.
-pub(crate) fn refuse<K: Sink>(refusal: Refusal<'_>, out: &mut K) -> Status
+pub fn refuse<K: Sink>(refusal: Refusal<'_>, out: &mut K) -> Status
     ensures { let at = sink_by K.written K.faults in Tells (fault_of refusal.entry) (at out.old) (at out.new) result }
 {
     match refusal {
@@ -66,21 +61,6 @@ pub(crate) fn refuse<K: Sink>(refusal: Refusal<'_>, out: &mut K) -> Status
             say(&LogItem::BadFile { name, line, what }, out);
             Status::Config
         }
-        Refusal::Disk => {
-            say(&LogItem::DiskFailed, out);
-            Status::DiskFault
-        }
-        Refusal::Damaged(place) => {
-            say(&LogItem::Damaged { place }, out);
-            Status::Damaged
-        }
         Refusal::NoMemory => Status::NoMemory,
     }
-}
-
-/// Writes the one line of a run. The run's fault hides that of the output.
-fn say<K: Sink>(item: &LogItem<'_>, out: &mut K)
-    ensures { let at = sink_by K.written K.faults in Says (Some (line_of item.now)) (at out.old) (at out.new) }
-{
-    let _said = render(item, out);
 }

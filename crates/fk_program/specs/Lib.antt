@@ -1,0 +1,3 @@
+pub mod Telling
+pub mod Faults
+pub mod Files
