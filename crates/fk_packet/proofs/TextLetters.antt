@@ -1,17 +1,21 @@
 -- The letters of texts, and the ten that begin the text of all sealed bytes.
-use Rattle.std.proofs.Common.{◌≡◌, ℕ, ◌+◌, ◌/◌, ◌%◌, ◌-◌, ◌<◌, ◌≤◌, Bool, true, false, not, List, [], ◌∷◌, ◌++◌, length, map, take, drop, get_or, Some, None, refl, sym, ap, ◌∙◌, inl, inr, arith}
-use Rattle.std.specs.Prelude.{◌==◌, nat_eq, nat_lt, cond}
+use Rattle.std.proofs.Common.{◌≡◌, ℕ, ◌+◌, ◌/◌, ◌%◌, ◌-◌, ◌<◌, ◌≤◌, Bool, true, false, not, List, [], ◌∷◌, ◌++◌, length, map, take, drop, get_or, Option, Some, None, refl, sym, ap, ◌∙◌, inl, inr, arith}
+use Rattle.std.specs.Prelude.{◌==◌, nat_eq, nat_lt, cond, MatchOption}
 use Rattle.std.specs.List.{AllByRecursion, list_all, position, position_or_len, prefix_len, starts_with}
 use Rattle.std.proofs.lemmas.Bool.{cases_Bool, cases_lt, ltb-false, ltb-true, lt-ltb, ne_eqb, not-true}
+use Rattle.std.proofs.lemmas.Bool.Decides.{nat_tests}
 use Rattle.std.proofs.lemmas.List.{get_or-drop}
 use Rattle.std.proofs.lemmas.List.Folds.{list_all_at}
 use Rattle.std.proofs.lemmas.List.Sums.{AllPass-from_list_all, list_all-from_AllPass, prefix_len-le-length, prefix_len_passes, prefix_len_stops}
 use Rattle.fk_text.specs.Found.{is_letter}
 use Rattle.fk_text.specs.Text.{alphabet, bits_of, group_numbers, letter_of, six_number, text_of}
 use Rattle.fk_text.specs.TextFault.{letter_number}
-use Rattle.fk_text.proofs.Letters.{letter_number-letter_of}
+use Rattle.fk_text.proofs.Letters.{letter_number-letter_of, letter_number_is}
 use Rattle.fk_cbc.specs.Seals.{salt_mark}
 use Rattle.fk_packet.specs.Shape.{prefix}
+
+-- whether a byte is a letter, by the ranges of the alphabet
+pub ruleset by_ranges = (nat_tests, letter_number_is)
 
 -- the first byte that is no letter
 
@@ -46,18 +50,23 @@ some_place n len at e = elim (cases_Bool (nat_lt n len)) [
   | inr out ↦ absurd (let f : None ≡ Some at = rw out at e in cc)
 ]
 
-pub all_letters : (xs : List ℕ) → position (λ c. letter_number c == 64) xs ≡ None → list_all is_letter xs ≡ true
+all_letters : (xs : List ℕ) → position (λ c. letter_number c == 64) xs ≡ None → list_all is_letter xs ≡ true
 all_letters xs none =
     let past = no_place (position_or_len (λ c. letter_number c == 64) xs) (length xs) none in
     let same = prefix_same (λ c. not (letter_number c == 64)) is_letter same_test xs in
     list_all-from_AllPass is_letter xs (λ k d lt. prefix_len_passes is_letter xs k d (omega arith))
 
-pub first_other : (xs : List ℕ) (at : ℕ) → position (λ c. letter_number c == 64) xs ≡ Some at → (list_all is_letter xs ≡ false) × (prefix_len is_letter xs ≡ at)
+first_other : (xs : List ℕ) (at : ℕ) → position (λ c. letter_number c == 64) xs ≡ Some at → (list_all is_letter xs ≡ false) × (prefix_len is_letter xs ≡ at)
 first_other xs at some =
     let place = some_place (position_or_len (λ c. letter_number c == 64) xs) (length xs) at some in
     let same = prefix_same (λ c. not (letter_number c == 64)) is_letter same_test xs in
     let inside : prefix_len is_letter xs < length xs = omega (arith, place.0) in
     (list_all_at is_letter xs (prefix_len is_letter xs) 0 inside (prefix_len_stops is_letter xs 0 inside), sym same ∙ place.1)
+
+pub first_other_is : (xs : List ℕ) (found : Option ℕ) → found ≡ position (λ c. letter_number c == 64) xs
+    → MatchOption found (list_all is_letter xs ≡ true) (λ place. (list_all is_letter xs ≡ false) × (prefix_len is_letter xs ≡ place))
+first_other_is xs None none = all_letters xs (sym none)
+first_other_is xs (Some at) some = first_other xs at (sym some)
 
 -- each letter of a text
 

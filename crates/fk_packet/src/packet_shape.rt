@@ -1,5 +1,7 @@
-ghost use Rattle.std.specs.Prelude.{◌≡◌, MatchResult, None, Some};
+ghost use Rattle.std.specs.Prelude.{◌≡◌, false, true, MatchOption, MatchResult, None, Some};
+ghost use Rattle.std.specs.List.{list_all, prefix_len};
 ghost use Rattle.fk_packet.specs.Shape.{shape_fault};
+ghost use Rattle.fk_text.specs.Found.{is_letter};
 
 use fk_text::first_bad_byte;
 
@@ -28,11 +30,43 @@ pub fn shape(datagram: &[u8]) -> Result<(), PacketShape>
     if datagram.len() < SHORTEST_DATAGRAM || datagram.len() > LONGEST_DATAGRAM {
         return Err(PacketShape::Size);
     }
-    if let Some(place) = first_bad_byte(datagram) {
+    if let Some(place) = first_other(datagram) {
         return Err(PacketShape::Alphabet(place));
     }
     if datagram.starts_with(PREFIX) {
         return Err(PacketShape::Prefix);
     }
     Ok(())
+}
+
+/// The first place whose byte is none of the 64 letters. It is looked for only where there is one.
+fn first_other(bytes: &[u8]) -> Option<usize>
+    ensures { MatchOption result
+        (list_all is_letter bytes.now ≡ true)
+        (λ place. (list_all is_letter bytes.now ≡ false) × (prefix_len is_letter bytes.now ≡ place)) }
+{
+    if are_letters(bytes) {
+        None
+    } else {
+        first_bad_byte(bytes)
+    }
+}
+
+/// Whether each byte is one of the 64 letters. Nothing ends the test early, so that a compiler can test sixteen bytes at a time.
+fn are_letters(bytes: &[u8]) -> bool
+    ensures { result ≡ list_all is_letter bytes.now }
+{
+    let mut letters = true;
+    for byte in bytes {
+        letters &= is_letter(*byte);
+    }
+    letters
+}
+
+/// The alphabet of RFC 4648, section 4, by its ranges.
+#[tactic(auto, using(crate::proofs::TextLetters::by_ranges))]
+fn is_letter(byte: u8) -> bool
+    ensures { result ≡ is_letter byte }
+{
+    byte.is_ascii_alphanumeric() | (byte == b'+') | (byte == b'/')
 }
