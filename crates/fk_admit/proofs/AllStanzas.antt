@@ -1,5 +1,5 @@
 -- What is known while stanzas are tried one by one.
-use Rattle.std.proofs.Common.{◌≡◌, ℕ, zero, suc, ◌+◌, ◌<◌, ◌≤◌, Bool, true, false, List, [], ◌∷◌, ◌++◌, length, take, drop, Option, Some, None, Result, Ok, Err, refl, sym, ◌∙◌, ap, subst, arith, if◌then◌else◌, add-one}
+use Rattle.std.proofs.Common.{◌≡◌, ℕ, zero, suc, ◌+◌, ◌≤◌, Bool, true, false, List, [], ◌∷◌, ◌++◌, length, take, drop, Option, Some, None, Ok, Err, refl, sym, ◌∙◌, ap, arith, if◌then◌else◌, add-one}
 use Rattle.std.specs.Prelude.{find, is_none, slice_get, unwrap_or}
 use Rattle.std.specs.List.{sum_by}
 use Rattle.std.specs.Option.{ok_or, option_map, option_map_or, option_or}

@@ -1,5 +1,5 @@
 -- What opening a datagram under keys says of the conditions that the keys decide.
-use Rattle.std.proofs.Common.{◌≡◌, ℕ, Bool, true, false, List, [], ◌∷◌, ◌++◌, Option, Some, None, Result, Ok, Err, refl, sym, ◌∙◌, ap, subst, if◌then◌else◌}
+use Rattle.std.proofs.Common.{◌≡◌, ℕ, Bool, true, false, List, [], ◌∷◌, ◌++◌, Option, Some, None, Result, Ok, Err, refl, subst, if◌then◌else◌}
 use Rattle.std.specs.Prelude.{is_ok, is_some}
 use Rattle.std.specs.Option.{option_and_then, option_map_or}
 use Rattle.std.specs.Result.{result_ok}

@@ -1,9 +1,8 @@
 -- What one stanza answers, by what its keys open.
-use Rattle.std.proofs.Common.{◌≡◌, ◌≢◌, ◌⊎◌, ℕ, ◌+◌, ◌<◌, ◌≤◌, Bool, true, false, List, [], ◌∷◌, ◌++◌, Option, Some, None, Result, Ok, Err, refl, sym, ◌∙◌, ap, subst, inl, inr, ⊎_elim, arith, if◌then◌else◌}
+use Rattle.std.proofs.Common.{◌≡◌, ◌≢◌, ◌⊎◌, ℕ, ◌+◌, ◌<◌, ◌≤◌, Bool, true, false, List, [], ◌++◌, Option, Some, Result, Ok, Err, refl, sym, ◌∙◌, ap, subst, inl, inr, ⊎_elim, arith, if◌then◌else◌}
 use Rattle.std.specs.Option.{option_map, option_map_or}
 use Rattle.std.proofs.lemmas.Bool.{cases_Bool}
 use Rattle.fk_base.specs.FirstFailed.{first_failed}
-use Rattle.fk_base.specs.declared.grant.Grant.{Grant}
 use Rattle.fk_fields.specs.declared.fields.Fields.{Fields}
 use Rattle.fk_access.specs.declared.stanza.Stanza.{Stanza}
 use Rattle.fk_packet.specs.declared.fault.PacketFault.{PacketFault}
@@ -13,7 +12,7 @@ use Rattle.fk_admit.specs.declared.refusal.AdmitFault.{AdmitFault}
 use Rattle.fk_admit.specs.declared.refusal.AdmitFault.TheVariants.{Refused, NoMemory}
 use Rattle.fk_admit.specs.declared.refusal.Refusal.{Refusal}
 use Rattle.fk_admit.specs.declared.refusal.Refusal.TheVariants.{Expired}
-use Rattle.fk_admit.specs.Admit.{grant_of, served_blocks}
+use Rattle.fk_admit.specs.Admit.{grant_of}
 use Rattle.fk_admit.specs.Arrival.{Arrival}
 use Rattle.fk_admit.specs.Conditions.{field_tests, is_open_at, served_tests}
 use Rattle.fk_admit.specs.KeyConditions.{fields_under, key_tests}

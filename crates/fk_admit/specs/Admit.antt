@@ -1,5 +1,5 @@
 -- What is granted for a datagram that arrives, or why nothing is.
-use Rattle.std.specs.Prelude.{ℕ, ◌+◌, ◌==◌, Bool, is_none, List, [], ◌∷◌, find, Option, Some, None, Result, Ok, Err, unwrap_or, if◌then◌else◌}
+use Rattle.std.specs.Prelude.{ℕ, ◌+◌, ◌==◌, is_none, List, [], ◌∷◌, find, Option, Some, None, Result, Err, unwrap_or, if◌then◌else◌}
 use Rattle.std.specs.List.{sum_by}
 use Rattle.std.specs.Option.{option_map, option_map_or, option_or, ok_or}
 use Rattle.fk_base.specs.FirstFailed.{first_failed}
@@ -25,9 +25,9 @@ abbrev pub let_in : Ip4 → Ip4 → Ip4
 let_in asked source = if asked.0 == 0 then source else asked
 
 -- for how long: as a timed request says, else as the stanza does
-abbrev pub seconds_of : Stanza → Ask → ℕ
-seconds_of stanza (ask.Access ip pairs) = stanza.timer
-seconds_of stanza (ask.Timed ip pairs seconds) = seconds
+abbrev pub open_seconds : Stanza → Ask → ℕ
+open_seconds stanza (ask.Access ip pairs) = stanza.timer
+open_seconds stanza (ask.Timed ip pairs seconds) = seconds
 
 -- what the stanza with this number grants for fields
 abbrev pub grant_of : ℕ → Stanza → Arrival → Fields → Grant
@@ -36,7 +36,7 @@ grant_of number stanza arrival fields = record {
   ip = let_in (asked_ip fields.ask) arrival.source;
   src = arrival.source;
   pairs = asked_pairs fields.ask;
-  seconds = seconds_of stanza fields.ask;
+  seconds = open_seconds stanza fields.ask;
   stamp = fields.stamp;
 }
 
@@ -61,14 +61,14 @@ why access arrival =
     option_map_or (failed_condition arrival) (find (λ stanza. serves stanza.sources arrival.source) access) NoStanza
 
 -- the refusal of a datagram that has not the right shape
-abbrev pub shape_refusal : PacketShape → Refusal
-shape_refusal shape.Size = Shape
-shape_refusal (shape.Alphabet place) = Shape
-shape_refusal shape.Prefix = Prefix
+abbrev pub refusal_of_shape : PacketShape → Refusal
+refusal_of_shape shape.Size = Shape
+refusal_of_shape (shape.Alphabet place) = Shape
+refusal_of_shape shape.Prefix = Prefix
 
 -- the answer to a datagram by its shape, and then by the stanzas
 abbrev pub admitted_by : Option PacketShape → List Stanza → Arrival → Result Grant Refusal
-admitted_by (Some fault) access arrival = Err (shape_refusal fault)
+admitted_by (Some fault) access arrival = Err (refusal_of_shape fault)
 admitted_by None access arrival = ok_or (first_grant 1 access arrival) (why access arrival)
 
 -- what is granted for a datagram that arrives, or why nothing is: stanzas are numbered from 1

@@ -1,6 +1,6 @@
 -- The conditions of a stanza that one pair of keys decides, and the fields that the keys open.
-use Rattle.std.specs.Prelude.{ℕ, Bool, true, false, List, [], ◌∷◌, Option, Some, None, Result, Ok, Err, is_ok, is_some}
-use Rattle.std.specs.Option.{option_map, option_map_or, option_and_then}
+use Rattle.std.specs.Prelude.{ℕ, Bool, true, false, List, [], ◌∷◌, Option, Result, Ok, Err, is_ok, is_some}
+use Rattle.std.specs.Option.{option_map_or, option_and_then}
 use Rattle.std.specs.Result.{result_ok}
 use Rattle.fk_base.specs.declared.keys.Keys.{Keys}
 use Rattle.fk_fields.specs.declared.fields.Fields.{Fields}

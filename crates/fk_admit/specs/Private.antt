@@ -1,6 +1,6 @@
 -- What the contracts of this crate's private functions alone speak of. No public contract cites it, so no caller has to
 -- believe it.
-use Rattle.std.specs.Prelude.{◌≡◌, ℕ, ◌<◌, Some}
+use Rattle.std.specs.Prelude.{◌≡◌, ◌<◌, Some}
 use Rattle.fk_base.specs.FirstFailed.{first_failed}
 use Rattle.fk_codec.specs.declared.fault.DecodeFault.{DecodeFault}
 use Rattle.fk_codec.specs.declared.fault.DecodeFault.TheVariants.{KindOut}

@@ -1,6 +1,6 @@
 ghost use Rattle.std.specs.Prelude.{◌≡◌, ◌+◌, ◌≤◌, IfOk, IsSome, MatchResult, None, Ok, length};
 ghost use Rattle.fk_packet.specs.Shape.{shape_fault};
-ghost use Rattle.fk_admit.specs.Admit.{admitted, blocks_in_all, shape_refusal};
+ghost use Rattle.fk_admit.specs.Admit.{admitted, blocks_in_all, refusal_of_shape};
 ghost use Rattle.fk_admit.specs.AdmitFault.{IsAdmitFault};
 ghost use Rattle.fk_admit.specs.Arrival.{arrival};
 ghost use Rattle.fk_admit.specs.Private.{arrival_of};
@@ -35,7 +35,7 @@ pub fn admit<L: Ledger>(
     ensures most_steps { steps.new ≤ steps.old + blocks_in_all access.now (arrival age src datagram.now moment) }
 {
     if let Err(fault) = shape(datagram) {
-        return Err(AdmitFault::Refused(shape_refusal(fault)));
+        return Err(AdmitFault::Refused(refusal_of_shape(fault)));
     }
     let arriving = Arriving {
         age,
@@ -76,8 +76,8 @@ fn try_stanzas<L: Ledger>(
     Err(AdmitFault::Refused(first.unwrap_or(Refusal::NoStanza)))
 }
 
-fn shape_refusal(fault: PacketShape) -> Refusal
-    ensures { result ≡ shape_refusal fault }
+fn refusal_of_shape(fault: PacketShape) -> Refusal
+    ensures { result ≡ refusal_of_shape fault }
 {
     match fault {
         PacketShape::Size | PacketShape::Alphabet(_) => Refusal::Shape,

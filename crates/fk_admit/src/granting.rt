@@ -1,6 +1,6 @@
 ghost use Rattle.std.specs.Prelude.{◌≡◌};
 ghost use Rattle.fk_fields.specs.Fields.{asked_pairs};
-ghost use Rattle.fk_admit.specs.Admit.{grant_of, let_in, seconds_of};
+ghost use Rattle.fk_admit.specs.Admit.{grant_of, let_in, open_seconds};
 ghost use Rattle.fk_admit.specs.Private.{arrival_of};
 
 use crate::arriving::Arriving;
@@ -19,7 +19,7 @@ pub(crate) fn grant_of(
     ensures { result ≡ grant_of number stanza.now (arrival_of arriving.entry) fields }
 {
     let ip = let_in(asked_ip(&fields.ask), arriving.source);
-    let seconds = seconds_of(stanza, &fields.ask);
+    let seconds = open_seconds(stanza, &fields.ask);
     let stamp = fields.stamp;
     Grant {
         stanza: number,
@@ -49,8 +49,8 @@ fn let_in(asked: Ip4, source: Ip4) -> Ip4
 }
 
 /// For how many seconds.
-fn seconds_of(stanza: &Stanza, ask: &Ask) -> u32
-    ensures { result ≡ seconds_of stanza.now ask.now }
+fn open_seconds(stanza: &Stanza, ask: &Ask) -> u32
+    ensures { result ≡ open_seconds stanza.now ask.now }
 {
     match ask {
         Ask::Access { .. } => stanza.timer,

@@ -1,5 +1,5 @@
 -- What the words of the daemon may ask for.
-use Rattle.std.proofs.Common.{◌≡◌, ℕ, ◌≤◌, ◌<◌, ◌^◌, nat_le, Bool, true, false, List, [], ◌∷◌, Option, Some, None, IfSome, Result, Ok, Err, if◌then◌else◌, refl, sym, subst, ◌∙◌, arith}
+use Rattle.std.proofs.Common.{◌≡◌, ℕ, ◌≤◌, nat_le, List, Option, Some, None, IfSome, if◌then◌else◌, refl, sym, subst, ◌∙◌, arith}
 use Rattle.std.specs.Option.{option_and_then}
 use Rattle.std.proofs.lemmas.Bool.Decides.{nat_tests}
 use Rattle.fk_base.specs.Decimal.{number_in}
@@ -12,50 +12,10 @@ use Rattle.fk_conf.specs.declared.command_option.CommandOption.TheVariants.{Pack
 use Rattle.fk_conf.specs.declared.option_set.OptionSet.{OptionSet}
 use Rattle.fk_conf.specs.declared.option_set.OptionSet.TheVariants as sets
 use Rattle.fk_conf.specs.declared.tool.Tool.TheVariants.{Daemon}
-use Rattle.fk_conf.specs.declared.word_fault.WordFault.{WordFault}
-use Rattle.fk_conf.specs.OptionSets.{fits}
-use Rattle.fk_conf.specs.ReadsWords.{IsCommand, ReadsWords, limit_of, set_read, set_unless, value_of}
-use Rattle.fk_conf.specs.WordFaults.{words_fault}
-use Rattle.fk_conf.specs.WordPlaces.{is_only}
-use Rattle.std.specs.Prelude.{codes}
+use Rattle.fk_conf.specs.ReadsWords.{IsCommand, ReadsWords, limit_of, set_read, value_of}
 use Rattle.fk_conf.specs.Limits.{IsLimit}
 use Rattle.fk_conf.specs.DaemonCommands.{IsForDaemon}
-
--- a set of this program
-abbrev pub IsDaemonSet : OptionSet → Type 0
-IsDaemonSet sets.Serve = Unit {0}
-IsDaemonSet sets.Trial = Unit {0}
-IsDaemonSet sets.List = Unit {0}
-IsDaemonSet sets.SendForAddress = ⊥
-IsDaemonSet sets.SendForSource = ⊥
-IsDaemonSet sets.KeyGen = ⊥
-IsDaemonSet sets.Encode = ⊥
-IsDaemonSet sets.Decode = ⊥
-IsDaemonSet sets.Journal = ⊥
-IsDaemonSet sets.Generate = ⊥
-IsDaemonSet sets.Help = Unit {0}
-IsDaemonSet sets.Version = Unit {0}
-
-from-ok : (x set : OptionSet) → IsDaemonSet x → (let read : Result OptionSet WordFault = Ok x in read ≡ Ok set) → IsDaemonSet set
-from-ok x set is e = let same : x ≡ set = cc in subst IsDaemonSet same is
-
-chosen : (help version : Bool) (fault : Option WordFault) (serve trial listing : Bool) (set : OptionSet)
-    → (if help then Ok sets.Help else (if version then Ok sets.Version
-    else set_unless fault (if serve then Some sets.Serve else (if trial then Some sets.Trial else (if listing then Some sets.List else None))))) ≡ Ok set
-    → IsDaemonSet set
-chosen true version fault serve trial listing set e = from-ok sets.Help set tt e
-chosen false true fault serve trial listing set e = from-ok sets.Version set tt e
-chosen false false (Some fault) serve trial listing set e = absurd cc
-chosen false false None true trial listing set e = from-ok sets.Serve set tt e
-chosen false false None false true listing set e = from-ok sets.Trial set tt e
-chosen false false None false false true set e = from-ok sets.List set tt e
-chosen false false None false false false set e = absurd cc
-
--- the words of this program make a set of it
-pub daemon-set : (words : List (List ℕ)) (set : OptionSet) → set_read Daemon words ≡ Ok set → IsDaemonSet set
-daemon-set words set e =
-    chosen (is_only (codes "--help") words) (is_only (codes "--version") words) (words_fault Daemon words)
-    (fits Daemon words sets.Serve) (fits Daemon words sets.Trial) (fits Daemon words sets.List) set e
+use Rattle.fk_conf.proofs.WordsAsk.{IsSetOf, ok-same, set-of}
 
 least-one : (found : Option ℕ) (n : ℕ) → option_and_then (λ n. if nat_le 1 n then Some n else None) found ≡ Some n → (1 ≤ n) × (found ≡ Some n)
 least-one None n e = absurd cc
@@ -74,7 +34,7 @@ pub limit-within : (option : CommandOption) (words : List (List ℕ)) (limit : O
 limit-within option words None is = tt
 limit-within option words (Some n) is = read-within (value_of option words) n (sym is)
 
-asks : (words : List (List ℕ)) (set : OptionSet) (asked : Command) → IsDaemonSet set → IsCommand words set asked → IsForDaemon asked
+asks : (words : List (List ℕ)) (set : OptionSet) (asked : Command) → IsSetOf Daemon set → IsCommand words set asked → IsForDaemon asked
 asks words sets.Serve (command.Serve conf access packets turns verbose) is says = (limit-within PacketLimit words packets says.1.0, limit-within TurnLimit words turns says.1.1)
 asks words sets.Serve _ is says = absurd says
 asks words sets.Trial (command.Trial conf access quiet verbose) is says = tt
@@ -95,9 +55,9 @@ asks words sets.Version _ is says = absurd says
 
 -- the words of this program ask for what is its
 pub daemon-command : (words : List (List ℕ)) (asked : Command) → ReadsWords Daemon words asked → IsForDaemon asked
-daemon-command words asked reads = asks words reads.set asked (daemon-set words reads.set reads.reads) reads.asks
+daemon-command words asked reads = asks words reads.set asked (set-of Daemon words reads.set reads.reads) reads.asks
 
-same-named : (words : List (List ℕ)) (set : OptionSet) (a b : Command) → IsDaemonSet set → IsCommand words set a → IsCommand words set b → a ≡ b
+same-named : (words : List (List ℕ)) (set : OptionSet) (a b : Command) → IsSetOf Daemon set → IsCommand words set a → IsCommand words set b → a ≡ b
 same-named words sets.Serve (command.Serve c a p t v) (command.Serve c' a' p' t' v') is one two =
     let ec : c ≡ c' = one.0.conf_is ∙ sym two.0.conf_is in
     let ea : a ≡ a' = one.0.access_is ∙ sym two.0.access_is in
@@ -132,11 +92,8 @@ same-named words sets.Version command.Version command.Version is one two = refl
 same-named words sets.Version command.Version _ is one two = absurd two
 same-named words sets.Version _ _ is one two = absurd one
 
-ok-same : (read : Result OptionSet WordFault) (x y : OptionSet) → read ≡ Ok x → read ≡ Ok y → x ≡ y
-ok-same read x y a b = cc
-
 -- words of this program ask for one command
 pub same-command : (words : List (List ℕ)) (a b : Command) → ReadsWords Daemon words a → ReadsWords Daemon words b → a ≡ b
 same-command words a b one two =
     let same : two.set ≡ one.set = ok-same (set_read Daemon words) two.set one.set two.reads one.reads in
-    same-named words one.set a b (daemon-set words one.set one.reads) one.asks (subst (λ (set : OptionSet). IsCommand words set b) same two.asks)
+    same-named words one.set a b (set-of Daemon words one.set one.reads) one.asks (subst (λ (set : OptionSet). IsCommand words set b) same two.asks)

@@ -1,5 +1,5 @@
 -- What the words of a program may ask for, and that those of a client ask for one packet.
-use Rattle.std.proofs.Common.{◌≡◌, ℕ, Bool, true, false, List, [], ◌∷◌, Option, Some, None, Result, Ok, Err, if◌then◌else◌, refl, sym, subst, ◌∙◌}
+use Rattle.std.proofs.Common.{◌≡◌, ℕ, Bool, true, false, List, [], ◌∷◌, Option, Some, None, Result, Ok, if◌then◌else◌, refl, sym, subst, ◌∙◌}
 use Rattle.std.specs.Prelude.{codes, find, length, nat_le}
 use Rattle.std.specs.Str.{bytes_eq}
 use Rattle.fk_conf.specs.declared.command.Command.{Command}
@@ -18,7 +18,7 @@ use Rattle.fk_conf.specs.WordFaults.{first_fault_at, words_fault}
 use Rattle.fk_conf.specs.WordPlaces.{is_only}
 
 -- a set of a program
-abbrev IsSetOf : Tool → OptionSet → Type 0
+abbrev pub IsSetOf : Tool → OptionSet → Type 0
 IsSetOf Daemon sets.Serve = Unit {0}
 IsSetOf Daemon sets.Trial = Unit {0}
 IsSetOf Daemon sets.List = Unit {0}
@@ -113,7 +113,8 @@ fko-chosen true version words set e = from-ok Fko sets.Help set tt e
 fko-chosen false true words set e = from-ok Fko sets.Version set tt e
 fko-chosen false false words set e = fko-set words set e
 
-set-of : (tool : Tool) (words : List (List ℕ)) (set : OptionSet) → set_read tool words ≡ Ok set → IsSetOf tool set
+-- the words of a program make a set of it
+pub set-of : (tool : Tool) (words : List (List ℕ)) (set : OptionSet) → set_read tool words ≡ Ok set → IsSetOf tool set
 set-of Daemon words set e =
     chosen Daemon sets.Serve sets.Trial sets.List tt tt tt tt tt (is_only (codes "--help") words) (is_only (codes "--version") words)
     (words_fault Daemon words) (fits Daemon words sets.Serve) (fits Daemon words sets.Trial) (fits Daemon words sets.List) set e
@@ -209,7 +210,8 @@ alike-of words sets.Version command.Version command.Version is one two = tt
 alike-of words sets.Version command.Version _ is one two = absurd two
 alike-of words sets.Version _ _ is one two = absurd one
 
-ok-same : (read : Result OptionSet WordFault) (x y : OptionSet) → read ≡ Ok x → read ≡ Ok y → x ≡ y
+-- two sets that were read of the same words are one
+pub ok-same : (read : Result OptionSet WordFault) (x y : OptionSet) → read ≡ Ok x → read ≡ Ok y → x ≡ y
 ok-same read x y a b = cc
 
 -- words of a client ask for one packet

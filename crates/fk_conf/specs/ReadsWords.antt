@@ -1,5 +1,5 @@
 -- What the words of a command line ask for.
-use Rattle.std.specs.Prelude.{◌≡◌, ℕ, Bool, true, false, ◌||◌, List, [], codes, find, Option, Some, None, unwrap_or, Result, Ok, Err, if◌then◌else◌}
+use Rattle.std.specs.Prelude.{◌≡◌, ℕ, Bool, true, false, List, [], codes, find, Option, Some, None, unwrap_or, Result, Ok, Err, if◌then◌else◌}
 use Rattle.std.specs.Option.{option_and_then, option_or}
 use Rattle.fk_base.specs.Address.{ip_in}
 use Rattle.fk_base.specs.declared.address.Ip4.{Ip4}
@@ -54,8 +54,8 @@ abbrev pub limit_of : CommandOption → List (List ℕ) → Option ℕ
 limit_of option words = read_from limit_in option words
 
 -- the address that is asked for: a given one, or 0.0.0.0 for the one that the packet comes from
-abbrev pub address_of : List (List ℕ) → Option Ip4
-address_of words = option_or (read_from ip_in Address words) (if stands PacketSource words then Some (record { 0 = 0 }) else None)
+abbrev pub asked_address : List (List ℕ) → Option Ip4
+asked_address words = option_or (read_from ip_in Address words) (if stands PacketSource words then Some (record { 0 = 0 }) else None)
 
 -- the names of the daemon's two files, of which each set that asks for them has both
 pub record IsNamed (words : List (List ℕ)) (conf access : List ℕ) : Type 0 where
@@ -67,7 +67,7 @@ pub record IsSend (words : List (List ℕ)) (send : SendWords) : Type 0 where
   pub name : send.name ≡ unwrap_or (value_of StanzaName words) (codes "default")
   pub file : send.file ≡ unwrap_or (value_of RcFileName words) (codes ".fwknoprc")
   pub pairs : send.pairs ≡ read_from pairs_unbroken PairList words
-  pub allow : send.allow ≡ address_of words
+  pub allow : send.allow ≡ asked_address words
   pub server : send.server ≡ read_from host_in Server words
   pub port : send.port ≡ read_from (number_within 1 65535) ServerPort words
   pub seconds : send.seconds ≡ read_from (number_within 1 LONGEST_TIME) Seconds words

@@ -9,7 +9,9 @@ ghost use Rattle.fk_conf.specs.RcTable.{allow_in, given_in, rc_names, rc_rule};
 use fk_base::{Ip4, LONGEST_TIME, find_ip};
 use fk_fields::is_user;
 use fk_lines::Line;
-use fk_values::{Given, MOST_SETTINGS, is_base64_key, is_host, is_key, read_hash_name, read_number, read_pairs};
+use fk_values::{
+    Given, MOST_SETTINGS, is_base64_key, is_host, is_key, read_hash_name, read_number, read_pairs,
+};
 
 /// A name of a stanza of the client's file.
 #[derive(Clone, Copy)]

@@ -5,7 +5,7 @@ ghost use Rattle.fk_conf.specs.CommandOptions.{pairs_unbroken};
 ghost use Rattle.fk_conf.specs.Limits.{HasLimits};
 ghost use Rattle.fk_conf.specs.Operands.{count_in};
 ghost use Rattle.fk_conf.specs.OptionSets.{fits, sets_of, stands};
-ghost use Rattle.fk_conf.specs.ReadsWords.{IsCommand, IsSend, IsWordErr, ReadsWords, address_of, keeps_names, read_from, set_read, set_unless, value_of};
+ghost use Rattle.fk_conf.specs.ReadsWords.{IsCommand, IsSend, IsWordErr, ReadsWords, asked_address, keeps_names, read_from, set_read, set_unless, value_of};
 ghost use Rattle.fk_conf.specs.WordFaults.{words_fault};
 ghost use Rattle.fk_conf.specs.WordPlaces.{word_at};
 
@@ -136,7 +136,7 @@ fn send_of(alloc: Global, words: &Words) -> Result<SendWords, NoMemory>
         name: name_of(alloc, CommandOption::StanzaName, words, b"default")?,
         file: name_of(alloc, CommandOption::RcFileName, words, b".fwknoprc")?,
         pairs: pairs_of(words),
-        allow: address_of(words),
+        allow: asked_address(words),
         server: server_of(alloc, words)?,
         port: port_of(words),
         seconds: seconds_of(words),
@@ -224,8 +224,8 @@ fn pairs_of(words: &Words) -> Option<Pairs>
     read_unbroken_pairs(word_behind(words, CommandOption::PairList.word())?)
 }
 
-fn address_of(words: &Words) -> Option<Ip4>
-    ensures { result ≡ address_of words.now }
+fn asked_address(words: &Words) -> Option<Ip4>
+    ensures { result ≡ asked_address words.now }
 {
     match given_address(words) {
         Some(address) => Some(address),

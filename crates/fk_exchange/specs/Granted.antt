@@ -4,7 +4,7 @@ use Rattle.fk_base.specs.declared.address.Ip4.{Ip4}
 use Rattle.fk_base.specs.declared.grant.Grant.{Grant}
 use Rattle.fk_fields.specs.Fields.{asked_ip, asked_pairs}
 use Rattle.fk_access.specs.declared.stanza.Stanza.{Stanza}
-use Rattle.fk_admit.specs.Admit.{admitted, let_in, seconds_of}
+use Rattle.fk_admit.specs.Admit.{admitted, let_in, open_seconds}
 use Rattle.fk_admit.specs.Arrival.{Arrival}
 use Rattle.fk_admit.specs.FirstGrant.{IsFirstGrant}
 use Rattle.fk_exchange.specs.Request.{Request}
@@ -17,7 +17,7 @@ grant_for number stanza request source = record {
   ip = let_in (asked_ip request.settings.ask) source;
   src = source;
   pairs = asked_pairs request.settings.ask;
-  seconds = seconds_of stanza request.settings.ask;
+  seconds = open_seconds stanza request.settings.ask;
   stamp = request.moment;
 }
 

@@ -18,7 +18,7 @@ use Rattle.fk_conf.specs.declared.conf.Conf.{Conf}
 use Rattle.fk_access.specs.declared.stanza.Stanza.{Stanza}
 use Rattle.fk_admit.specs.declared.refusal.Refusal.{Refusal}
 use Rattle.fk_admit.specs.declared.refusal.Refusal.TheVariants as refusal
-use Rattle.fk_admit.specs.Admit.{admitted, shape_refusal}
+use Rattle.fk_admit.specs.Admit.{admitted, refusal_of_shape}
 use Rattle.fk_admit.specs.Arrival.{arrival}
 use Rattle.fk_ledger.specs.Book.{has_room}
 use Rattle.fk_turn.specs.declared.arrival.Arrival.{Arrival}
@@ -73,7 +73,7 @@ verdict_of stanzas (Err refusal) = Refused (why_of refusal)
 -- the rules of a daemon with this configuration and these stanzas
 abbrev pub rules_of : Conf → List Stanza → Rules
 rules_of conf stanzas = record {
-  misshapen = λ datagram. option_map (λ fault. why_of (shape_refusal fault)) (shape_fault datagram);
+  misshapen = λ datagram. option_map (λ fault. why_of (refusal_of_shape fault)) (shape_fault datagram);
   digest = packet_digest;
   admit = λ moment source datagram. verdict_of stanzas (admitted stanzas (arrival conf.age source datagram moment));
   has_room = has_room conf.room conf.live;

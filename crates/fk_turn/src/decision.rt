@@ -1,6 +1,6 @@
 //! What a datagram is answered, before the room for its record is tested; and its record.
 ghost use Rattle.std.specs.Prelude.{◌≡◌, ◌+◌, ◌<◌, ◌≤◌, false, length, Ok, IfOk, MatchResult, OnErr, None};
-ghost use Rattle.fk_admit.specs.Admit.{admitted, shape_refusal};
+ghost use Rattle.fk_admit.specs.Admit.{admitted, refusal_of_shape};
 ghost use Rattle.fk_admit.specs.AdmitFault.{IsAdmitFault};
 ghost use Rattle.fk_admit.specs.Arrival.{arrival};
 ghost use Rattle.fk_base.specs.CommandWords.{AreCommandWords};
@@ -85,7 +85,7 @@ fn ask_stanzas<L: Counts>(
 }
 
 fn why_of_shape(fault: PacketShape) -> LogWhy
-    ensures { result ≡ why_of (shape_refusal fault) }
+    ensures { result ≡ why_of (refusal_of_shape fault) }
 {
     match fault {
         PacketShape::Size | PacketShape::Alphabet(_) => LogWhy::Shape,

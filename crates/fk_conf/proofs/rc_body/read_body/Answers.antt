@@ -1,10 +1,10 @@
-use Rattle.std.proofs.Common.{◌≡◌, ℕ, false, refl, sym, ap, ◌∙◌}
+use Rattle.std.proofs.Common.{◌≡◌, ℕ, false, sym, ap, ◌∙◌}
 use Rattle.std.specs.Option.{option_map}
 use Rattle.std.specs.Str.{bytes_eq}
 use Rattle.fk_values.specs.Given.{said_by}
 use Rattle.fk_values.specs.Stanzas.{before_head}
 use Rattle.fk_values.specs.declared.setting_fault.SettingFault.{SettingFault}
-use Rattle.fk_values.proofs.SettingsRead.{reading_begins, reading_goes_on, reading_is_refused}
+use Rattle.fk_values.proofs.SettingsRead.{reading_goes_on, reading_is_refused}
 use Rattle.fk_values.proofs.StanzaLines.{before-other, stanzas-other}
 use Rattle.fk_conf.specs.ConfWhat.{conf_what}
 use Rattle.fk_conf.specs.RcTable.{head_name, rc_rules}

@@ -1,5 +1,5 @@
 use Rattle.std.proofs.Common.{sym, ◌∙◌}
-use Rattle.fk_conf.proofs.WordSteps.{is_found, is_missing, is_passed}
+use Rattle.fk_conf.proofs.WordSteps.{is_found, is_passed}
 use Rattle.fk_conf.proofs.word_places.place_behind.Goals as goal
 
 pub returns-then-eq-clause-place : goal.returns-then-eq-clause-place
