@@ -357,6 +357,7 @@ module _ (settles : SettlesCleanly) (once : AttemptsOnce) (run : Run) (tried : L
         past = past_then x.moments y.moments old mid new (omega (arith, begun, synced)) opening.past moments.past;
         unsynced = opening.unsynced;
         since = opening.since;
+        soon = opening.soon;
         before = recursion-weaker (λ (item : Item). (y.moments < item.moments) × (item.moments ≤ z.moments)) (λ item. opening.unsynced < item.moments)
             (λ item h. let u = h.0 in omega (arith, u, synced)) (trace_of run) items.placed;
         first = λ k image low high now. opening.first k image low high ((moments.past k image (omega (arith, high, synced))).0 now);
