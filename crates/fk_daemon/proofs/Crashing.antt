@@ -4,19 +4,19 @@ use Rattle.std.specs.List.{list_any, AllPairs, AllByRecursion, Contains}
 use Rattle.std.proofs.Math.Seq.{take-append-add}
 use Rattle.std.proofs.lemmas.Bool.{cases_lt}
 use Rattle.std.proofs.lemmas.Grind.{flat_map-append}
-use Rattle.std.proofs.lemmas.List.{take_all}
+use Rattle.std.proofs.lemmas.List.{map-append, take_all}
 use Rattle.std.proofs.lemmas.List.Elements.{filter-append, Contains-append_left}
 use Rattle.fk_trace.specs.declared.change.Change.{Change}
 use Rattle.fk_trace.specs.Trace.{Item, Child, children, begun_by, is_turn, past_after}
 use Rattle.fk_trace.specs.Ledger.{after, opens, dones}
-use Rattle.fk_trace.specs.Decision.{Rules}
+use Rattle.fk_trace.specs.Decision.{FeedTurn, Rules}
 use Rattle.fk_trace.specs.Settled.{EndedCleanly}
 use Rattle.fk_run.specs.Headline.{opens_attempted}
 use Rattle.fk_trace.proofs.Settled.{past_after-append}
 use Rattle.fk_trace.proofs.Splits.{AllPairs-front, recursion-behind}
 use Rattle.fk_run.specs.Place.{entry}
 use Rattle.fk_run.specs.Turn.{TakenTurn, CutTurn, after_turns}
-use Rattle.fk_run.specs.Run.{Run, Ending, trace_of, changes_of}
+use Rattle.fk_run.specs.Run.{Run, Ending, turns_of, trace_of, changes_of}
 use Rattle.fk_run.specs.Run.Ending.{AtLimit, AtDiskFault}
 use Rattle.fk_run.specs.Legal.{Legal, LegalTurns}
 use Rattle.fk_run.specs.Left.{items_by, items_behind, is_attempt, IsCutAt, IsLeft, crashed}
@@ -43,6 +43,13 @@ of-turn P turns front next later e all =
     recursion-front P next.items (items_in later)
     (recursion-behind P (items_in front) (next.items ++ items_in later)
     (subst (AllByRecursion P) (ap items_in e ∙ flat_map-append (λ (taken : TakenTurn). taken.items) front (next ∷ later)) all))
+
+-- what the feed gave in these turns
+abbrev given_to : List TakenTurn → List FeedTurn
+given_to turns = map (λ taken. taken.turn) turns
+
+given-push : (turns : List TakenTurn) (last : TakenTurn) → given_to (turns ++ last ∷ []) ≡ given_to turns ++ last.turn ∷ []
+given-push turns last = map-append (λ (taken : TakenTurn). taken.turn) turns (last ∷ [])
 
 front-short : (turns front : List TakenTurn) (next : TakenTurn) (later : List TakenTurn) → turns ≡ front ++ next ∷ later → length (changes_in front) ≤ length (changes_in turns)
 front-short turns front next later e =
@@ -78,6 +85,8 @@ pub crash-none : (run : Run) (tried : List Change) (k : ℕ) → AllByRecursion 
 crash-none run tried k behind = record {
   over = λ front next later e seen. absurd (no_turn-none k next.items (of-turn (λ (item : Item). k < item.moments) run.turns front next later e behind) seen);
   turns = [];
+  untaken = turns_of run;
+  of_feed = refl;
   items = sym (by-none k (trace_of run) behind);
   changes = refl;
   legal = record { turns = tt; no_fault_before = tt; numbered = λ i j d l m. absurd (omega arith) };
@@ -105,6 +114,9 @@ module _ (rules : Rules) (ledger : List Change) (faults : ℕ) where
         | inr last ↦ absurd (no_turn-none k taken.items behind (subst (λ (t : TakenTurn). list_any (λ (item : Item). is_turn item.event) (items_by k t.items) ≡ true) last.1 seen))
       ];
       turns = c.turns;
+      untaken = c.untaken ++ taken.turn ∷ [];
+      of_feed = sym (append_assoc (given_to c.turns) c.untaken (taken.turn ∷ [])) ∙ ap (λ (given : List FeedTurn). given ++ taken.turn ∷ []) c.of_feed
+          ∙ sym (given-push turns taken);
       items = c.items ∙ sym (ap (items_by k) (items-push turns taken) ∙ filter-append (λ (item : Item). nat_le item.moments k) (items_in turns) taken.items
           ∙ ap (λ (xs : List Item). items_by k (items_in turns) ++ xs) (by-none k taken.items behind) ∙ append-nil (items_by k (items_in turns)));
       changes = c.changes ∙ sym (take-within n made tried);
@@ -140,11 +152,13 @@ module _ (rules : Rules) (ledger : List Change) (faults : ℕ) where
             | inr last ↦ let same = ap (λ (ts : List TakenTurn). length (changes_in ts)) last.0 in omega (arith, same)
           ]
 
-      left-with : (left : List TakenTurn) → items_in left ≡ items_by k (items_in all) → changes_in left ≡ take (length made + n) (made ++ tried) → LegalTurns rules (entry ledger) AtDiskFault left
+      left-with : (left : List TakenTurn) (untaken : List FeedTurn) → given_to left ++ untaken ≡ given_to all → items_in left ≡ items_by k (items_in all) → changes_in left ≡ take (length made + n) (made ++ tried) → LegalTurns rules (entry ledger) AtDiskFault left
           → IsCrashed (run_at ending all) (made ++ tried) k (length made + n)
-      left-with left items changes legal = record {
+      left-with left untaken given items changes legal = record {
         over = λ front next later e seen. over-later front next later e;
         turns = left;
+        untaken = untaken;
+        of_feed = given;
         items = items;
         changes = changes;
         legal = legal-left left items legal;
@@ -171,11 +185,11 @@ module _ (rules : Rules) (ledger : List Change) (faults : ℕ) where
       crash-later =
           (elim (items_by k taken.items) as (λ xs. items_by k taken.items ≡ xs → IsCrashed (run_at ending all) (made ++ tried) k (length made + n)) [
             | [] ↦ λ none.
-                left-with turns (sym (by_all ∙ ap (λ (xs : List Item). items_in turns ++ xs) none ∙ append-nil (items_in turns)))
+                left-with turns (taken.turn ∷ []) (sym (given-push turns taken)) (sym (by_all ∙ ap (λ (xs : List Item). items_in turns ++ xs) none ∙ append-nil (items_in turns)))
                 (sym (left_all ∙ ap (λ (m : ℕ). made ++ take m tried) (none-yet none) ∙ append-nil made)) (legal-whole rules (entry ledger) AtDiskFault turns whole)
             | x ∷ xs ↦ λ some.
                 let end : TakenTurn = cut_off (record taken { changes = tried }) k n in
-                left-with (turns ++ end ∷ []) (items-push turns end ∙ sym by_all) (changes-push turns end ∙ sym left_all)
+                left-with (turns ++ end ∷ []) [] (append-nil (given_to (turns ++ end ∷ [])) ∙ given-push turns end ∙ sym (given-push turns taken)) (items-push turns end ∙ sym by_all) (changes-push turns end ∙ sym left_all)
                 (legal-cut rules (entry ledger) AtDiskFault turns end refl whole
                 (cut-cut rules (after_turns (entry ledger) turns) (record taken { changes = tried }) k n cut at rising (λ none. let both = sym some ∙ none in cc)))
           ]) refl
@@ -278,7 +292,7 @@ module _ (rules : Rules) (ledger : List Change) (faults : ℕ) where
 
   -- how the run ends plays no part
   left-ending : (ending other : Ending) (turns : List TakenTurn) (tried : List Change) (k n : ℕ) → IsCrashed (run_at ending turns) tried k n → IsCrashed (run_at other turns) tried k n
-  left-ending ending other turns tried k n c = record { over = c.over; turns = c.turns; items = c.items; changes = c.changes; legal = c.legal }
+  left-ending ending other turns tried k n c = record { over = c.over; turns = c.turns; untaken = c.untaken; of_feed = c.of_feed; items = c.items; changes = c.changes; legal = c.legal }
 
   module _ (ending other : Ending) (turns : List TakenTurn) (tried : List Change) (least : ℕ) where
     crash-ending : (low k : ℕ) (image : Areas) → HoldsCrash (run_at ending turns) tried low k image → HoldsCrash (run_at other turns) tried low k image
@@ -336,6 +350,8 @@ module _ (settles : SettlesCleanly) (once : AttemptsOnce) (run : Run) (tried : L
             subst (λ (items : List Item). EndedCleanly [] items id) c.items
             (settles (crashed run c.turns) c.legal id (subst (λ (cs : List Change). Contains (dones cs) id) (sym c.changes) m));
         turns = c.turns;
+        untaken = c.untaken;
+        of_feed = c.of_feed;
         items = c.items;
         changes = c.changes;
         legal = c.legal;
@@ -357,6 +373,7 @@ module _ (settles : SettlesCleanly) (once : AttemptsOnce) (run : Run) (tried : L
         past = past_then x.moments y.moments old mid new (omega (arith, begun, synced)) opening.past moments.past;
         unsynced = opening.unsynced;
         since = opening.since;
+        soon = opening.soon;
         before = recursion-weaker (λ (item : Item). (y.moments < item.moments) × (item.moments ≤ z.moments)) (λ item. opening.unsynced < item.moments)
             (λ item h. let u = h.0 in omega (arith, u, synced)) (trace_of run) items.placed;
         first = λ k image low high now. opening.first k image low high ((moments.past k image (omega (arith, high, synced))).0 now);

@@ -47,6 +47,7 @@ opening-weaker ledger old new x y opening = record {
   past = opening.past;
   unsynced = opening.unsynced;
   since = opening.since;
+  soon = opening.soon;
   first = opening.first;
   then = record { later = opening.then.later; past = opening.then.past; each = opening.then.each; all = λ never. absurd cc };
 }

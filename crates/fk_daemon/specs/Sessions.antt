@@ -96,6 +96,8 @@ pub record IsCrashed (run : Run) (tried : List Change) (moment count : ℕ) : Ty
   pub over : (front : List TakenTurn) (next : TakenTurn) (later : List TakenTurn) → run.turns ≡ front ++ next ∷ later
       → list_any (λ item. is_turn item.event) (items_by moment next.items) ≡ true → length (flat_map (λ taken. taken.changes) front) ≤ count
   pub turns : List TakenTurn
+  pub untaken : List FeedTurn
+  pub of_feed : turns_of (crashed run turns) ++ untaken ≡ turns_of run
   pub items : trace_of (crashed run turns) ≡ items_by moment (trace_of run)
   pub changes : changes_of (crashed run turns) ≡ take count tried
   pub legal : Legal (crashed run turns)

@@ -4,9 +4,10 @@ use Rattle.std.specs.List.{filter, flat_map, list_any, AllByRecursion, Contains}
 use Rattle.fk_trace.specs.declared.change.Change.{Change}
 use Rattle.fk_trace.specs.Trace.{Event, Item, attempt_of, is_turn}
 use Rattle.fk_trace.specs.Ledger.{opens, dones}
+use Rattle.fk_trace.specs.Decision.{FeedTurn}
 use Rattle.fk_trace.specs.Settled.{EndedCleanly}
 use Rattle.fk_run.specs.Turn.{TakenTurn}
-use Rattle.fk_run.specs.Run.{Run, trace_of, changes_of}
+use Rattle.fk_run.specs.Run.{Run, turns_of, trace_of, changes_of}
 use Rattle.fk_run.specs.Run.Ending.{AtDiskFault}
 use Rattle.fk_run.specs.Legal.{Legal}
 use Rattle.fk_run.specs.Headline.{opens_attempted}
@@ -49,6 +50,9 @@ pub record IsLeft (run : Run) (tried : List Change) (moment count : ℕ) : Type 
   pub settled : (id : ℕ) → Contains (dones (take count tried)) id → EndedCleanly [] (items_by moment (trace_of run)) id
   -- with these changes, the items up to the moment are those of a legal run that is cut there
   pub turns : List TakenTurn
+  -- whose turns are the first of those that the feed gave to the run
+  pub untaken : List FeedTurn
+  pub of_feed : turns_of (crashed run turns) ++ untaken ≡ turns_of run
   pub items : trace_of (crashed run turns) ≡ items_by moment (trace_of run)
   pub changes : changes_of (crashed run turns) ≡ take count tried
   pub legal : Legal (crashed run turns)

@@ -1,7 +1,7 @@
 use Rattle.std.proofs.Common.{inl, inr}
 use Rattle.fk_child.specs.View.{view_of}
 use Rattle.fk_log.specs.Printing.{sink_by}
-use Rattle.fk_daemon.specs.Outside.{feed_by, outside_by}
+use Rattle.fk_daemon.specs.Outside.{outside_by}
 use Rattle.fk_daemon.specs.Serving.{Serves}
 use Rattle.fk_run.proofs.Runs.{settled-run}
 use Rattle.fk_daemon.proofs.Ending.{begun, serves_begun, unopened}

@@ -1,7 +1,6 @@
 use Rattle.std.proofs.Common.{[], true, false, sym, ◌∙◌}
-use Rattle.fk_child.specs.View.{view_of}
 use Rattle.fk_log.specs.Printing.{sink_by}
-use Rattle.fk_daemon.specs.Outside.{feed_by, outside_by}
+use Rattle.fk_daemon.specs.Outside.{feed_by}
 use Rattle.fk_daemon.specs.Sessions.{standing_by}
 use Rattle.fk_daemon.proofs.Going.{going-first, limit-reached, limit-ahead}
 use Rattle.fk_daemon.proofs.Stopping.{finish-limit}

@@ -2,9 +2,6 @@ use Rattle.std.proofs.Common.{◌≡◌, ◌-◌, List}
 use Rattle.fk_trace.specs.declared.change.Change.{Change}
 use Rattle.fk_run.specs.Turn.{TakenTurn}
 use Rattle.fk_run.specs.Ending.{turn_limit}
-use Rattle.fk_child.specs.View.{view_of}
-use Rattle.fk_log.specs.Printing.{sink_by}
-use Rattle.fk_daemon.specs.Outside.{feed_by, outside_by}
 use Rattle.fk_daemon.specs.Sessions.{Begins, standing_by}
 use Rattle.fk_daemon.proofs.Going.{Going}
 use Rattle.fk_daemon.proofs.session.Session.run.Given as goal
