@@ -25,21 +25,20 @@ pub record Outside : Type 0 where
   pub link : LinkView
   pub sink : SinkView
 
-abbrev pub entropy_by : {N : Type 0} → (N → Option (List ℕ)) → (N → ℕ) → N → EntropyView
-entropy_by left faults entropy = record { left = left entropy; faults = faults entropy }
+abbrev pub entropy_by : {N : Type 0} → EntropyMeaning N → N → EntropyView
+entropy_by means entropy = record { left = means.left entropy; faults = means.faults entropy }
 
-abbrev pub link_by : {L : Type 0} → (L → Option Sendings) → (L → ℕ) → L → LinkView
-link_by told faults link = record { told = told link; faults = faults link }
-
--- the four together, of the objects by what they mean
-abbrev pub outside_by : {F N L K : Type 0} → (F → FilesView) → (N → EntropyView) → (L → LinkView) → (K → SinkView) → F → N → L → K → Outside
-outside_by files_view entropy_view link_view sink_view files entropy link sink =
-    record { files = files_view files; entropy = entropy_view entropy; link = link_view link; sink = sink_view sink }
+abbrev pub link_by : {L : Type 0} → LinkMeaning L → L → LinkView
+link_by means link = record { told = means.told link; faults = means.faults link }
 
 -- the four together, of the objects by what their traits have them tell
-abbrev pub outside_of : {F N L K : Type 0} → FilesMeaning F → EntropyMeaning N → LinkMeaning L → SinkMeaning K → F → N → L → K → Outside
-outside_of files entropy link sink =
-    outside_by (files_by files.held files.faults) (entropy_by entropy.left entropy.faults) (link_by link.told link.faults) (sink_by sink.written sink.faults)
+abbrev pub outside_by : {F N L K : Type 0} → FilesMeaning F → EntropyMeaning N → LinkMeaning L → SinkMeaning K → F → N → L → K → Outside
+outside_by files_means entropy_means link_means sink_means = λ files entropy link sink. record {
+  files = files_by files_means files;
+  entropy = entropy_by entropy_means entropy;
+  link = link_by link_means link;
+  sink = sink_by sink_means sink;
+}
 
 -- the entropy failed, and has taken nothing
 abbrev pub undrawn : EntropyView → EntropyView

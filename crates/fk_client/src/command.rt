@@ -4,7 +4,7 @@ ghost use Rattle.fk_conf.specs.ReadsWords.{set_read};
 ghost use Rattle.fk_conf.specs.declared.tool.Tool.TheVariants.{Client};
 ghost use Rattle.fk_host.specs.Count.{Rose};
 ghost use Rattle.fk_client.specs.Causes.{FailsByAnswer};
-ghost use Rattle.fk_client.specs.Outside.{outside_of};
+ghost use Rattle.fk_client.specs.Outside.{outside_by};
 ghost use Rattle.fk_client.specs.Ready.{EndsAs, MeetsNoFault, NamesNoFile, NamesWrongFile};
 ghost use Rattle.fk_client.specs.Running.{Runs, RunsClient};
 ghost use Rattle.fk_program.specs.Files.{files_by};
@@ -31,14 +31,14 @@ pub fn fwknop_run<F: Files, N: Entropy, L: Link, K: Sink>(
     link: &mut L,
     out: &mut K,
 ) -> Status
-    ensures runs { let at = outside_of F.Files N.Entropy L.Link K.Sink in
+    ensures runs { let at = outside_by F.Files N.Entropy L.Link K.Sink in
         RunsClient words.now moment (at files.old entropy.old link.old out.old) (at files.new entropy.new link.new out.new) result }
     ensures usage { (result ≡ Status.Usage) ↔ IsErr (set_read Client words.now) }
-    ensures missing { NamesNoFile words.now (files_by F.held F.faults files.old) → EndsAs Status.FileFault result }
-    ensures config { NamesWrongFile words.now (files_by F.held F.faults files.old) → ¬ Rose (F.faults files.old) (F.faults files.new) → EndsAs Status.Config result }
-    ensures counts { let at = outside_of F.Files N.Entropy L.Link K.Sink in
+    ensures missing { NamesNoFile words.now (files_by F.Files files.old) → EndsAs Status.FileFault result }
+    ensures config { NamesWrongFile words.now (files_by F.Files files.old) → ¬ Rose (F.faults files.old) (F.faults files.new) → EndsAs Status.Config result }
+    ensures counts { let at = outside_by F.Files N.Entropy L.Link K.Sink in
         FailsByAnswer result (at files.old entropy.old link.old out.old) (at files.new entropy.new link.new out.new) }
-    ensures complete { let at = outside_of F.Files N.Entropy L.Link K.Sink in
+    ensures complete { let at = outside_by F.Files N.Entropy L.Link K.Sink in
         MeetsNoFault words.now (at files.old entropy.old link.old out.old) (at files.new entropy.new link.new out.new) → EndsAs Status.Done result }
 {
     client_words_ask_for_one_packet();
@@ -55,7 +55,7 @@ fn run_words<F: Files, N: Entropy, L: Link, K: Sink>(
     link: &mut L,
     out: &mut K,
 ) -> Status
-    ensures { let at = outside_of F.Files N.Entropy L.Link K.Sink in
+    ensures { let at = outside_by F.Files N.Entropy L.Link K.Sink in
         RunsClient words.now moment (at files.old entropy.old link.old out.old) (at files.new entropy.new link.new out.new) result }
 {
     words_ask_for_their_program();
@@ -76,7 +76,7 @@ fn run_command<F: Files, N: Entropy, L: Link, K: Sink>(
     out: &mut K,
 ) -> Status
     requires { IsCommandOf Client command.now }
-    ensures { let at = outside_of F.Files N.Entropy L.Link K.Sink in
+    ensures { let at = outside_by F.Files N.Entropy L.Link K.Sink in
         Runs command.now moment (at files.old entropy.old link.old out.old) (at files.new entropy.new link.new out.new) result }
 {
     match command {

@@ -20,7 +20,7 @@ const CIPHER_KEY_BYTES: usize = 32;
 
 /// Draws new keys and prints their two lines. What it takes of memory it takes before it prints.
 pub(crate) fn make_keys<N: Entropy, K: Sink>(alloc: Global, entropy: &mut N, out: &mut K) -> Status
-    ensures { let from = entropy_by N.left N.faults in let at = sink_by K.written K.faults in
+    ensures { let from = entropy_by N.Entropy in let at = sink_by K.Sink in
         MakesKeys (from entropy.old) (from entropy.new) (at out.old) (at out.new) result }
 {
     let mut drawn = [0; KEYS_BYTES];

@@ -10,7 +10,7 @@ use fk_program::printed_status;
 
 /// Prints the line of what was done.
 pub(crate) fn show_line<K: Sink>(pieces: &[&[u8]], out: &mut K) -> Status
-    ensures { let at = sink_by K.written K.faults in
+    ensures { let at = sink_by K.Sink in
         Shows (flat_map (λ piece. piece.now) pieces.now ++ 10 ∷ []) (at out.old) (at out.new) result }
 {
     printed_status(write_line(pieces, out))
@@ -18,7 +18,7 @@ pub(crate) fn show_line<K: Sink>(pieces: &[&[u8]], out: &mut K) -> Status
 
 /// Prints the line of a fault, which hides that of the output.
 pub(crate) fn say_line<K: Sink>(pieces: &[&[u8]], out: &mut K)
-    ensures { let at = sink_by K.written K.faults in
+    ensures { let at = sink_by K.Sink in
         Says (Some (flat_map (λ piece. piece.now) pieces.now ++ 10 ∷ [])) (at out.old) (at out.new) }
 {
     let _said = write_line(pieces, out);
@@ -26,7 +26,7 @@ pub(crate) fn say_line<K: Sink>(pieces: &[&[u8]], out: &mut K)
 
 /// Writes the pieces and a line feed.
 fn write_line<K: Sink>(pieces: &[&[u8]], out: &mut K) -> Result<(), Failed>
-    ensures { let at = sink_by K.written K.faults in
+    ensures { let at = sink_by K.Sink in
         Prints (flat_map (λ piece. piece.now) pieces.now ++ 10 ∷ []) (is_err result) (at out.old) (at out.new) }
 {
     for piece in pieces {

@@ -18,7 +18,7 @@ pub(crate) fn settings_by<'a, F: Files>(
     words: &'a SendWords,
     files: &mut F,
 ) -> Result<Settings, Refusal<'a>>
-    ensures { let at = files_by F.held F.faults in MatchResult result
+    ensures { let at = files_by F.Files in MatchResult result
         (λ settings. HasSettings words.now (at files.old) settings × (at files.new ≡ at files.old))
         (λ refusal. FailsToSettle words.now (fault_of refusal) (at files.old) (at files.new)) }
 {
@@ -43,7 +43,7 @@ fn stanzas_of<'a, F: Files>(
     name: &'a [u8],
     files: &mut F,
 ) -> Result<RcFile, fk_program::Refusal<'a>>
-    ensures { let at = files_by F.held F.faults in MatchResult result
+    ensures { let at = files_by F.Files in MatchResult result
         (λ stanzas. HasStanzas name.now (at files.old) stanzas × (at files.new ≡ at files.old))
         (λ refusal. FailsFile (rc_test name.now) name.now (file_fault_of refusal) (at files.old) (at files.new)) }
 {

@@ -39,7 +39,7 @@ pub(crate) fn need_name(fault: NeedFault) -> &'static [u8]
 
 /// Says the refusal. Where memory is wanting nothing is written.
 pub(crate) fn refuse<K: Sink>(refusal: Refusal<'_>, out: &mut K) -> Status
-    ensures { let at = sink_by K.written K.faults in Tells (fault_of refusal.entry) (at out.old) (at out.new) result }
+    ensures { let at = sink_by K.Sink in Tells (fault_of refusal.entry) (at out.old) (at out.new) result }
 {
     match refusal {
         Refusal::Common(refusal) => fk_program::refuse(refusal, out),

@@ -3,7 +3,7 @@ ghost use Rattle.std.specs.Prelude.{◌≡◌, ◌∷◌, ◌++◌, [], MatchRes
 ghost use Rattle.std.specs.List.{flat_map};
 ghost use Rattle.fk_log.specs.Printing.{sink_by};
 ghost use Rattle.fk_client.specs.ClientText.{sent_line};
-ghost use Rattle.fk_client.specs.Outside.{entropy_by, link_by, outside_of};
+ghost use Rattle.fk_client.specs.Outside.{entropy_by, link_by, outside_by};
 ghost use Rattle.fk_client.specs.Private.{DrawsInVain, DrawsPacket, fault_of};
 ghost use Rattle.fk_client.specs.Running.{RunsSend, SendsPacket};
 
@@ -27,7 +27,7 @@ pub(crate) fn run_send<F: Files, N: Entropy, L: Link, K: Sink>(
     link: &mut L,
     out: &mut K,
 ) -> Status
-    ensures { let at = outside_of F.Files N.Entropy L.Link K.Sink in
+    ensures { let at = outside_by F.Files N.Entropy L.Link K.Sink in
         RunsSend words.now moment (at files.old entropy.old link.old out.old) (at files.new entropy.new link.new out.new) result }
 {
     let settings = match settings_by(alloc, words, files) {
@@ -52,7 +52,7 @@ fn draw_packet<'a, N: Entropy>(
     entropy: &mut N,
     moment: Moment,
 ) -> Result<Packet, Refusal<'a>>
-    ensures { let at = entropy_by N.left N.faults in MatchResult result
+    ensures { let at = entropy_by N.Entropy in MatchResult result
         (λ packet. DrawsPacket settings moment packet (at entropy.old) (at entropy.new))
         (λ refusal. DrawsInVain DRAWN_BYTES (fault_of refusal) (at entropy.old) (at entropy.new)) }
 {
@@ -68,7 +68,7 @@ fn draw_packet<'a, N: Entropy>(
 
 /// Sends the packet, and tells that it was sent.
 fn send<L: Link, K: Sink>(packet: &Packet, link: &mut L, out: &mut K) -> Status
-    ensures { let link_at = link_by L.told L.faults in let at = sink_by K.written K.faults in
+    ensures { let link_at = link_by L.Link in let at = sink_by K.Sink in
         SendsPacket packet.now (link_at link.old) (link_at link.new) (at out.old) (at out.new) result }
 {
     let datagram = packet.datagram.as_slice();

@@ -23,7 +23,8 @@ use Rattle.fk_trial.specs.Streams.{SourceView, Streams, source_by, streams_by}
 use Rattle.fk_trial.specs.Trial.{Tries}
 use Rattle.fk_program.specs.Faults.{Fault, Tells}
 use Rattle.fk_program.specs.Files.{FilesView, files_by}
-use Rattle.fk_command.specs.World.{World, outside_of}
+use Rattle.fk_daemon.specs.Outside.{outside_by}
+use Rattle.fk_command.specs.World.{World}
 use Rattle.fk_command.specs.Files.{Names, ReadsFiles, FailsFiles}
 
 abbrev pub names_of : FileNames → Names
@@ -35,7 +36,7 @@ served_in input files outside = record { files = files; input = input; outside =
 
 -- the same, of the objects by what their traits have them tell
 abbrev pub served_of : {F E H K : Type 0} → FilesMeaning F → FeedMeaning E → DiskMeaning H → SinkMeaning K → SourceView → F → E → H → K → World
-served_of files feed host sink input = λ f e h k. served_in input (files_by files.held files.faults f) (outside_of feed host sink e h k)
+served_of files feed host sink input = λ f e h k. served_in input (files_by files f) (outside_by feed host sink e h k)
 
 -- a world of these, where a call is handed the host and the output alone
 abbrev pub listed_in : FilesView → FeedView → SourceView → View → SinkView → World
@@ -44,7 +45,7 @@ listed_in files feed input host sink = record { files = files; input = input; ou
 -- the same, of the two by what their traits have them tell
 abbrev pub listed_of : {H K : Type 0} → DiskMeaning H → SinkMeaning K → FilesView → FeedView → SourceView → H → K → World
 listed_of host sink files feed input =
-    λ h k. listed_in files feed input (view_of host.told host.may_leave host.faults host.above h) (sink_by sink.written sink.faults k)
+    λ h k. listed_in files feed input (view_of host h) (sink_by sink k)
 
 -- what a trial is handed
 pub record Bench : Type 0 where
@@ -57,7 +58,7 @@ bench files streams = record { files = files; streams = streams }
 -- the same, of the objects by what their traits have them tell
 abbrev pub bench_of : {F I K : Type 0} → FilesMeaning F → SourceMeaning I → SinkMeaning K → F → I → K → Bench
 bench_of files input sink =
-    λ f i k. bench (files_by files.held files.faults f) (streams_by (source_by input.left input.faults) (sink_by sink.written sink.faults) i k)
+    λ f i k. bench (files_by files f) (streams_by input sink i k)
 
 -- the lines of the input were tried by both files
 pub record TriesFiles (names : Names) (verbosity : Verbosity) (old new : Bench) (answer : Status) : Type 0 where

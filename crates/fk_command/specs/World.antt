@@ -18,20 +18,13 @@ pub record World : Type 1 where
   -- the feed, the host and the output
   pub outside : Outside
 
--- all together, of the objects by what they mean
-abbrev pub world_by : {F E H I K : Type 0} → (F → FilesView) → (E → H → K → Outside) → (I → SourceView) → F → E → H → I → K → World
-world_by files_view outside input_view files feed host input sink =
-    record { files = files_view files; input = input_view input; outside = outside feed host sink }
-
--- the feed, the host and the output, of the objects by what their traits have them tell
-abbrev pub outside_of : {E H K : Type 0} → FeedMeaning E → DiskMeaning H → SinkMeaning K → E → H → K → Outside
-outside_of feed host sink =
-    outside_by (feed_by feed.told feed.faults feed.has_ended) (view_of host.told host.may_leave host.faults host.above) (sink_by sink.written sink.faults)
-
 -- all together, of the objects by what their traits have them tell
-abbrev pub world_of : {F E H I K : Type 0} → FilesMeaning F → FeedMeaning E → DiskMeaning H → SourceMeaning I → SinkMeaning K → F → E → H → I → K → World
-world_of files feed host input sink =
-    world_by (files_by files.held files.faults) (outside_of feed host sink) (source_by input.left input.faults)
+abbrev pub world_by : {F E H I K : Type 0} → FilesMeaning F → FeedMeaning E → DiskMeaning H → SourceMeaning I → SinkMeaning K → F → E → H → I → K → World
+world_by files_means feed_means disk_means input_means sink_means = λ files feed host input sink. record {
+  files = files_by files_means files;
+  input = source_by input_means input;
+  outside = outside_by feed_means disk_means sink_means feed host sink;
+}
 
 -- the input and the output alone
 abbrev pub streams_of : World → Streams

@@ -43,7 +43,7 @@ pub(crate) fn read_files<'a, F: Files>(
     names: FileNames<'a>,
     files: &mut F,
 ) -> Result<Settings, Refusal<'a>>
-    ensures { let at = files_by F.held F.faults in MatchResult result
+    ensures { let at = files_by F.Files in MatchResult result
         (λ read. ReadsFiles (names_of names.entry) read.conf read.access (at files.old) (at files.new))
         (λ refusal. FailsFiles (names_of names.entry) (fault_of refusal) (at files.old) (at files.new)) }
 {
@@ -59,7 +59,7 @@ pub(crate) fn read_files<'a, F: Files>(
 
 /// What the configuration's file of this name says.
 fn conf_of<'a, F: Files>(alloc: Global, name: &'a [u8], files: &mut F) -> Result<Conf, Refusal<'a>>
-    ensures { let at = files_by F.held F.faults in MatchResult result
+    ensures { let at = files_by F.Files in MatchResult result
         (λ conf. HasConf name.now (at files.old) conf × (at files.new ≡ at files.old))
         (λ refusal. FailsFile (conf_test name.now) name.now (fault_of refusal) (at files.old) (at files.new)) }
 {
@@ -84,7 +84,7 @@ fn access_of<'a, F: Files>(
     name: &'a [u8],
     files: &mut F,
 ) -> Result<Access, Refusal<'a>>
-    ensures { let at = files_by F.held F.faults in MatchResult result
+    ensures { let at = files_by F.Files in MatchResult result
         (λ stanzas. HasAccess name.now (at files.old) stanzas × (at files.new ≡ at files.old))
         (λ refusal. FailsFile (access_test name.now) name.now (fault_of refusal) (at files.old) (at files.new)) }
 {

@@ -43,7 +43,7 @@ pub(crate) fn list_records<H: Host, K: Sink>(alloc: Global, host: &mut H, out: &
 
 /// Prints a line for each live record.
 fn print_live<K: Sink>(changes: &[Change], out: &mut K) -> Status
-    ensures { let at = sink_by K.written K.faults in Shows (list_text changes.now) (at out.old) (at out.new) result }
+    ensures { let at = sink_by K.Sink in Shows (list_text changes.now) (at out.old) (at out.new) result }
 {
     no_lines_log_nothing();
     adjoining_lines_log_both();

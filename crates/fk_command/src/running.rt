@@ -2,7 +2,7 @@ ghost use Rattle.fk_command.specs.Causes.{FailsByAnswer};
 ghost use Rattle.fk_conf.specs.DaemonCommands.{IsForDaemon};
 ghost use Rattle.fk_command.specs.Ready.{EndsWell, MeetsNoFault};
 ghost use Rattle.fk_command.specs.Running.{Runs, RunsWords, serving_verbosity, trying_verbosity};
-ghost use Rattle.fk_command.specs.World.{world_of};
+ghost use Rattle.fk_command.specs.World.{world_by};
 ghost use Rattle.std.specs.Prelude.{◌≡◌};
 
 use crate::files::file_names;
@@ -31,11 +31,11 @@ pub fn fwknopd_run<F: Files, E: Feed, H: Host, I: Source, K: Sink>(
     input: &mut I,
     out: &mut K,
 ) -> Status
-    ensures runs { let at = world_of F.Files E.Feed H.Disk I.Source K.Sink in
+    ensures runs { let at = world_by F.Files E.Feed H.Disk I.Source K.Sink in
         RunsWords words.now (at files.old feed.old host.old input.old out.old) (at files.new feed.new host.new input.new out.new) result }
-    ensures counts { let at = world_of F.Files E.Feed H.Disk I.Source K.Sink in
+    ensures counts { let at = world_by F.Files E.Feed H.Disk I.Source K.Sink in
         FailsByAnswer result (at files.old feed.old host.old input.old out.old) (at files.new feed.new host.new input.new out.new) }
-    ensures complete { let at = world_of F.Files E.Feed H.Disk I.Source K.Sink in
+    ensures complete { let at = world_by F.Files E.Feed H.Disk I.Source K.Sink in
         MeetsNoFault words.now (at files.old feed.old host.old input.old out.old) (at files.new feed.new host.new input.new out.new)
         → EndsWell result }
 {
@@ -58,9 +58,9 @@ fn run_command<F: Files, E: Feed, H: Host, I: Source, K: Sink>(
     out: &mut K,
 ) -> Status
     requires { IsForDaemon command.now }
-    ensures runs { let at = world_of F.Files E.Feed H.Disk I.Source K.Sink in
+    ensures runs { let at = world_by F.Files E.Feed H.Disk I.Source K.Sink in
         Runs command.now (at files.old feed.old host.old input.old out.old) (at files.new feed.new host.new input.new out.new) result }
-    ensures counts { let at = world_of F.Files E.Feed H.Disk I.Source K.Sink in
+    ensures counts { let at = world_by F.Files E.Feed H.Disk I.Source K.Sink in
         FailsByAnswer result (at files.old feed.old host.old input.old out.old) (at files.new feed.new host.new input.new out.new) }
 {
     match command {

@@ -3,6 +3,7 @@ use Rattle.std.specs.Prelude.{◌≡◌, ◌≢◌, ℕ, ◌≤◌, List, length
 use Rattle.fk_base.specs.declared.file.TheConstants.{FILE_LIMIT}
 use Rattle.fk_host.specs.Count.{counted}
 use Rattle.fk_host.specs.Files.{bytes_of_file}
+use Rattle.fk_host.specs.declared.files.Files.{Ghosts as FilesMeaning}
 use Rattle.fk_host.specs.declared.files.HeldFile.{HeldFile}
 use Rattle.fk_program.specs.Faults.{Fault}
 use Rattle.fk_program.specs.Faults.Fault.{WrongWords, FileNotHeld, FileNotRead, WrongFile, WantsMemory}
@@ -12,8 +13,8 @@ pub record FilesView : Type 0 where
   pub held : Option (List HeldFile)
   pub faults : ℕ
 
-abbrev pub files_by : {F : Type 0} → (F → Option (List HeldFile)) → (F → ℕ) → F → FilesView
-files_by held faults files = record { held = held files; faults = faults files }
+abbrev pub files_by : {F : Type 0} → FilesMeaning F → F → FilesView
+files_by means files = record { held = means.held files; faults = means.faults files }
 
 -- the files refused a read, and count it
 abbrev pub refused : FilesView → FilesView

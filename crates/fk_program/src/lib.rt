@@ -1,4 +1,4 @@
-//! What both programs do alike: they read a file whole, they tell a fault of their words and files by one line and a status, and they
+//! What both programs do alike: they take their words, they read a file whole, they tell a fault of their words and files by one line and a status, and they
 //! show a text.
 //!
 //! What words and files mean is said by `fk_conf` and `fk_access`. What a program does with them, and the faults of its other objects,
@@ -11,7 +11,9 @@
 mod reading;
 mod refusal;
 mod telling;
+mod words;
 
 pub use reading::read_text;
 pub use refusal::{Refusal, refusal_of_words, refuse};
 pub use telling::{printed_status, say, show_text};
+pub use words::command_words;

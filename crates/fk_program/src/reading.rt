@@ -14,7 +14,7 @@ pub fn read_text<'a, F: Files>(
     name: &'a [u8],
     files: &mut F,
 ) -> Result<Bytes, Refusal<'a>>
-    ensures { let at = files_by F.held F.faults in MatchResult result
+    ensures { let at = files_by F.Files in MatchResult result
         (λ text. HasText name.now (at files.old) text × (at files.new ≡ at files.old))
         (λ refusal. (test : List ℕ → Option Fault) → FailsFile test name.now (fault_of refusal) (at files.old) (at files.new)) }
 {

@@ -42,7 +42,7 @@ pub fn refusal_of_words<'a>(fault: WordFault) -> Refusal<'a>
 
 /// Says the refusal. Where memory is wanting nothing is written.
 pub fn refuse<K: Sink>(refusal: Refusal<'_>, out: &mut K) -> Status
-    ensures { let at = sink_by K.written K.faults in Tells (fault_of refusal.entry) (at out.old) (at out.new) result }
+    ensures { let at = sink_by K.Sink in Tells (fault_of refusal.entry) (at out.old) (at out.new) result }
 {
     match refusal {
         Refusal::Words(fault) => {

@@ -11,14 +11,14 @@ use fk_log::{LogItem, render};
 
 /// Prints the text of what was done.
 pub fn show_text<K: Sink>(text: &[u8], out: &mut K) -> Status
-    ensures { let at = sink_by K.written K.faults in Shows text.now (at out.old) (at out.new) result }
+    ensures { let at = sink_by K.Sink in Shows text.now (at out.old) (at out.new) result }
 {
     printed_status(write_all(out, text))
 }
 
 /// Prints the line of a fault, which hides that of the output.
 pub fn say<K: Sink>(item: &LogItem<'_>, out: &mut K)
-    ensures { let at = sink_by K.written K.faults in Says (Some (line_text (line_of item.now))) (at out.old) (at out.new) }
+    ensures { let at = sink_by K.Sink in Says (Some (line_text (line_of item.now))) (at out.old) (at out.new) }
 {
     let _said = render(item, out);
 }

@@ -6,7 +6,7 @@
 use fk_base::{NoMemory, Status, Words};
 use fk_client::fwknop_run;
 use fk_host::{DirFiles, StdSink, SysEntropy, UdpLink, system_moment};
-use std::env::{Env, FillError};
+use fk_program::command_words;
 use std::io;
 use std::process::ExitCode;
 
@@ -16,7 +16,7 @@ fn main(rt: HostRuntime) -> ExitCode {
 
 /// Runs on the system's objects. Where there is no memory for the words nothing is read or written.
 fn run(rt: &HostRuntime) -> Status {
-    match command_words(rt) {
+    match command_words(rt.alloc(), rt) {
         Ok(words) => run_words(rt, &words),
         Err(NoMemory) => Status::NoMemory,
     }
@@ -41,21 +41,4 @@ fn run_words(rt: &HostRuntime, words: &Words) -> Status {
         &mut UdpLink::new(for_link),
         &mut StdSink::new(io::writer(rt)),
     )
-}
-
-/// The longest word that the system hands a program, in bytes.
-const WORD_ROOM: usize = 131_072;
-
-/// The words of the command line byte by byte, without the program's name. One that is not UTF-8 is refused at its place.
-fn command_words(rt: &HostRuntime) -> Result<Words, NoMemory> {
-    let mut words = Words::new(rt.alloc());
-    let mut room = vec![in rt.alloc(); 0; WORD_ROOM]?;
-    for place in 1..usize::MAX {
-        match rt.arg(place, &mut room) {
-            Ok(len) => words.push(&room[..len])?,
-            Err(FillError::NotPresent) => return Ok(words),
-            Err(FillError::TooLong) => return Err(NoMemory),
-        }
-    }
-    Ok(words)
 }

@@ -6,8 +6,9 @@
 use fk_base::{NoMemory, Status, Words};
 use fk_command::fwknopd_run;
 use fk_host::{DirFiles, StdSink, StdSource, SysHost, UdpFeed};
+use fk_program::command_words;
+use std::io;
 use std::process::ExitCode;
-use std::{env, io};
 
 fn main(rt: HostRuntime) -> ExitCode {
     ExitCode::from(run(&rt).exit_code())
@@ -15,7 +16,7 @@ fn main(rt: HostRuntime) -> ExitCode {
 
 /// Runs on the system's objects. Where there is no memory for the words nothing is read or written.
 fn run(rt: &HostRuntime) -> Status {
-    match command_words(rt) {
+    match command_words(rt.alloc(), rt) {
         Ok(words) => run_on(rt, &words),
         Err(NoMemory) => Status::NoMemory,
     }
@@ -40,20 +41,4 @@ fn run_on(rt: &HostRuntime, words: &Words) -> Status {
         &mut StdSource::new(rt.reader()),
         &mut StdSink::new(io::writer(rt)),
     )
-}
-
-/// The words of the command line, without the program's name. There are none where one of them is not UTF-8, since such
-/// a command line is as faulty as an empty one.
-fn command_words(rt: &HostRuntime) -> Result<Words, NoMemory> {
-    let mut words = Words::new(rt.alloc());
-    match env::args(rt) {
-        Ok(args) => {
-            for word in args.skip(1) {
-                words.push(word.as_bytes())?;
-            }
-            Ok(words)
-        }
-        Err(fault) if fault.kind() == io::ErrorKind::OutOfMemory => Err(NoMemory),
-        Err(_) => Ok(words),
-    }
 }

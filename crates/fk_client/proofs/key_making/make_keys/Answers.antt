@@ -5,7 +5,7 @@ use Rattle.fk_client.proofs.key_making.make_keys.Goals as goal
 
 pub returns-in-Ok : goal.returns-in-Ok
 returns-in-Ok g c =
-    let at = sink_by g.K.Sink.written g.K.Sink.faults in
+    let at = sink_by g.K.Sink in
     inr (
       c.fill.new.out,
       record { len = c.fill.auto.out; taken = c.in_default.ensures.taken; unfailed = c.in_default.ensures.cause },

@@ -7,7 +7,7 @@ use Rattle.fk_client.proofs.printing.write_line.Goals as goal
 
 pub returns-in_err-write_all : goal.returns-in_err-write_all
 returns-in_err-write_all g c =
-    let at = sink_by g.K.Sink.written g.K.Sink.faults in
+    let at = sink_by g.K.Sink in
     let e = c.in_err-write_all.ensures in
     subst (λ (failed : Bool). Prints (flat_map (λ piece. piece.now) c.args.pieces.now ++ 10 ∷ []) failed (at c.args.out.now) (at c.write_all.new.out))
     (sym c.from_residual.ensures.0)
@@ -16,6 +16,6 @@ returns-in_err-write_all g c =
 
 pub loop-piece-preserved : goal.loop-piece-preserved
 loop-piece-preserved g c =
-    let at = sink_by g.K.Sink.written g.K.Sink.faults in
+    let at = sink_by g.K.Sink in
     prints-next (λ piece. piece.now) c.args.pieces.now c.loop-piece.piece-index _ (at c.args.out.now) (at c.loop-piece.out) (at c.write_all.new.out)
     c.loop-piece-test.true c.loop-piece.invariant (c.in_ok-write_all.ensures.given, c.in_ok-write_all.ensures.cause)

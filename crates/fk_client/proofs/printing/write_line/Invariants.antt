@@ -5,5 +5,5 @@ use Rattle.fk_client.proofs.printing.write_line.Given as goal
 
 abbrev pub invariant-loop-piece : goal.invariant-loop-piece
 invariant-loop-piece g l =
-    let at = sink_by g.K.Sink.written g.K.Sink.faults in
+    let at = sink_by g.K.Sink in
     Prints (flat_map (λ piece. piece.now) (take l.piece-index l.pieces)) false (at l.initial.out) (at l.out)

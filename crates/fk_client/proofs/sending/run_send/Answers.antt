@@ -1,13 +1,13 @@
 use Rattle.std.proofs.Common.{List, ℕ, [], ◌∷◌, ◌++◌, inr, refl, subst}
 use Rattle.fk_program.specs.Telling.{Shows}
-use Rattle.fk_client.specs.Outside.{outside_of}
+use Rattle.fk_client.specs.Outside.{outside_by}
 use Rattle.fk_client.specs.Private.{fault_of}
 use Rattle.fk_client.proofs.Delivering.{in-vain, delivered, as-shown, as-sent}
 use Rattle.fk_client.proofs.sending.run_send.Goals as goal
 
 pub returns-in-Err-draw_packet : goal.returns-in-Err-draw_packet
 returns-in-Err-draw_packet g c =
-    let at = outside_of g.F.Files g.N.Entropy g.L.Link g.K.Sink in
+    let at = outside_by g.F.Files g.N.Entropy g.L.Link g.K.Sink in
     let old = at c.args.files.now c.args.entropy.now c.args.link.now c.args.out.now in
     let new = at c.settings_by.new.files c.draw_packet.new.entropy c.args.link.now c.refuse-in-Err-draw_packet.new.out in
     inr (
@@ -20,7 +20,7 @@ returns-in-Err-draw_packet g c =
 
 pub returns-then-words : goal.returns-then-words
 returns-then-words g c =
-    let at = outside_of g.F.Files g.N.Entropy g.L.Link g.K.Sink in
+    let at = outside_by g.F.Files g.N.Entropy g.L.Link g.K.Sink in
     let old = at c.args.files.now c.args.entropy.now c.args.link.now c.args.out.now in
     let new = at c.settings_by.new.files c.draw_packet.new.entropy c.args.link.now c.show_line.new.out in
     let packet = c.in-Ok-draw_packet.packet in
@@ -35,7 +35,7 @@ returns-then-words g c =
 
 pub returns : goal.returns
 returns g c =
-    let at = outside_of g.F.Files g.N.Entropy g.L.Link g.K.Sink in
+    let at = outside_by g.F.Files g.N.Entropy g.L.Link g.K.Sink in
     let old = at c.args.files.now c.args.entropy.now c.args.link.now c.args.out.now in
     let new = at c.settings_by.new.files c.draw_packet.new.entropy c.send.new.link c.send.new.out in
     let packet = c.in-Ok-draw_packet.packet in

@@ -6,7 +6,7 @@ use Rattle.fk_command.proofs.files.read_files.Goals as goal
 
 pub returns-in-Err-access_of : goal.returns-in-Err-access_of
 returns-in-Err-access_of g c =
-    let at = files_by g.F.Files.held g.F.Files.faults in
+    let at = files_by g.F.Files in
     let name = c.args.names.access.now in
     inr (record {
       conf = c.in-Ok.conf;

@@ -21,7 +21,7 @@ loop-change-preserved g c =
 
 pub returns-then-is_broken : goal.returns-then-is_broken
 returns-then-is_broken g c =
-    let at = sink_by g.K.Sink.written g.K.Sink.faults in
+    let at = sink_by g.K.Sink in
     let prints = printed_all c.args.changes.now (take c.loop-change.change-index c.args.changes.now) (at c.args.out.now) (at c.loop-change.out) c.loop-change.log
     (take_all c.loop-change.change-index c.args.changes.now c.loop-change-test.false) c.loop-change.invariant in
     let broken : c.loop-change.log.is_broken ≡ true = cc in
@@ -29,7 +29,7 @@ returns-then-is_broken g c =
 
 pub returns-else-is_broken : goal.returns-else-is_broken
 returns-else-is_broken g c =
-    let at = sink_by g.K.Sink.written g.K.Sink.faults in
+    let at = sink_by g.K.Sink in
     let prints = printed_all c.args.changes.now (take c.loop-change.change-index c.args.changes.now) (at c.args.out.now) (at c.loop-change.out) c.loop-change.log
     (take_all c.loop-change.change-index c.args.changes.now c.loop-change-test.false) c.loop-change.invariant in
     let whole : c.loop-change.log.is_broken ≡ false = cc in

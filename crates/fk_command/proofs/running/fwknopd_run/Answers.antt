@@ -3,7 +3,7 @@ use Rattle.fk_log.specs.Printing.{sink_by}
 use Rattle.fk_child.specs.View.{view_of}
 use Rattle.fk_program.specs.Faults.{Fault, Tells}
 use Rattle.fk_command.specs.Running.{RefusesWords, RunsWords}
-use Rattle.fk_command.specs.World.{world_of}
+use Rattle.fk_command.specs.World.{world_by}
 use Rattle.fk_command.proofs.Counting.{same-host, words-counts}
 use Rattle.fk_command.proofs.Complete.{run-ends-well}
 use Rattle.fk_command.proofs.running.fwknopd_run.Goals as goal
@@ -13,7 +13,7 @@ run_command-requires g c = c.daemon_words_ask_for_one_command.ensures.own c.args
 
 pub returns-in-Ok : goal.returns-in-Ok
 returns-in-Ok g c =
-    let at = world_of g.F.Files g.E.Feed g.H.Disk g.I.Source g.K.Sink in
+    let at = world_by g.F.Files g.E.Feed g.H.Disk g.I.Source g.K.Sink in
     let before = at c.args.files.now c.args.feed.now c.args.host.now c.args.input.now c.args.out.now in
     let after = at c.run_command.new.files c.run_command.new.feed c.run_command.new.host c.run_command.new.input c.run_command.new.out in
     let runs : RunsWords c.args.words.now before after c.run_command.result =
@@ -26,11 +26,11 @@ returns-in-Ok g c =
 
 pub returns-in-Err : goal.returns-in-Err
 returns-in-Err g c =
-    let at = world_of g.F.Files g.E.Feed g.H.Disk g.I.Source g.K.Sink in
+    let at = world_by g.F.Files g.E.Feed g.H.Disk g.I.Source g.K.Sink in
     let before = at c.args.files.now c.args.feed.now c.args.host.now c.args.input.now c.args.out.now in
     let after = at c.args.files.now c.args.feed.now c.args.host.now c.args.input.now c.refuse.new.out in
-    let view = view_of g.H.Disk.told g.H.Disk.may_leave g.H.Disk.faults g.H.Disk.above in
-    let sink = sink_by g.K.Sink.written g.K.Sink.faults in
+    let view = view_of g.H.Disk in
+    let sink = sink_by g.K.Sink in
     let refuses : RefusesWords c.args.words.now before after c.refuse.result =
     record {
       fault = c.in-Err.fault;

@@ -8,7 +8,7 @@ use Rattle.fk_command.specs.declared.help.TheConstants.{HELP, VERSION}
 use Rattle.fk_command.specs.Running.{PrintsOnly, Runs}
 use Rattle.fk_trial.specs.Streams.{source_by, streams_by}
 use Rattle.fk_program.specs.Files.{files_by}
-use Rattle.fk_command.specs.World.{world_of}
+use Rattle.fk_command.specs.World.{world_by}
 use Rattle.fk_command.proofs.Counting.{printed-counts, same-host}
 use Rattle.fk_command.specs.Private.{bench, names_of}
 use Rattle.fk_command.proofs.Served.{asked-serve, limits-are}
@@ -17,10 +17,10 @@ use Rattle.fk_command.proofs.running.run_command.Goals as goal
 
 pub returns-in-List : goal.returns-in-List
 returns-in-List g c =
-    let file = files_by g.F.Files.held g.F.Files.faults c.args.files.now in
-    let feed = feed_by g.E.Feed.told g.E.Feed.faults g.E.Feed.has_ended c.args.feed.now in
-    let input = source_by g.I.Source.left g.I.Source.faults c.args.input.now in
-    let at = world_of g.F.Files g.E.Feed g.H.Disk g.I.Source g.K.Sink in
+    let file = files_by g.F.Files c.args.files.now in
+    let feed = feed_by g.E.Feed c.args.feed.now in
+    let input = source_by g.I.Source c.args.input.now in
+    let at = world_by g.F.Files g.E.Feed g.H.Disk g.I.Source g.K.Sink in
     let before = at c.args.files.now c.args.feed.now c.args.host.now c.args.input.now c.args.out.now in
     let after = at c.args.files.now c.args.feed.now c.list_records.new.host c.args.input.now c.list_records.new.out in
     record {
@@ -30,8 +30,8 @@ returns-in-List g c =
 
 pub returns-in-Help : goal.returns-in-Help
 returns-in-Help g c =
-    let at = world_of g.F.Files g.E.Feed g.H.Disk g.I.Source g.K.Sink in
-    let view = view_of g.H.Disk.told g.H.Disk.may_leave g.H.Disk.faults g.H.Disk.above in
+    let at = world_by g.F.Files g.E.Feed g.H.Disk g.I.Source g.K.Sink in
+    let view = view_of g.H.Disk in
     let before = at c.args.files.now c.args.feed.now c.args.host.now c.args.input.now c.args.out.now in
     let after = at c.args.files.now c.args.feed.now c.args.host.now c.args.input.now c.show_text.new.out in
     let prints : PrintsOnly HELP.now before after c.show_text.result =
@@ -47,8 +47,8 @@ returns-in-Help g c =
 
 pub returns-in-Version : goal.returns-in-Version
 returns-in-Version g c =
-    let at = world_of g.F.Files g.E.Feed g.H.Disk g.I.Source g.K.Sink in
-    let view = view_of g.H.Disk.told g.H.Disk.may_leave g.H.Disk.faults g.H.Disk.above in
+    let at = world_by g.F.Files g.E.Feed g.H.Disk g.I.Source g.K.Sink in
+    let view = view_of g.H.Disk in
     let before = at c.args.files.now c.args.feed.now c.args.host.now c.args.input.now c.args.out.now in
     let after = at c.args.files.now c.args.feed.now c.args.host.now c.args.input.now c.show_text-in-Version.new.out in
     let prints : PrintsOnly VERSION.now before after c.show_text-in-Version.result =
@@ -64,8 +64,8 @@ returns-in-Version g c =
 
 pub returns-in-Serve : goal.returns-in-Serve
 returns-in-Serve g c =
-    let input = source_by g.I.Source.left g.I.Source.faults c.args.input.now in
-    let at = world_of g.F.Files g.E.Feed g.H.Disk g.I.Source g.K.Sink in
+    let input = source_by g.I.Source c.args.input.now in
+    let at = world_by g.F.Files g.E.Feed g.H.Disk g.I.Source g.K.Sink in
     let before = at c.args.files.now c.args.feed.now c.args.host.now c.args.input.now c.args.out.now in
     let after = at c.serve_by_files.new.files c.serve_by_files.new.feed c.serve_by_files.new.host c.args.input.now c.serve_by_files.new.out in
     let names = names_of c.file_names-names.result in
@@ -78,10 +78,10 @@ returns-in-Serve g c =
 
 pub returns-in-Trial : goal.returns-in-Trial
 returns-in-Trial g c =
-    let feed = feed_by g.E.Feed.told g.E.Feed.faults g.E.Feed.has_ended c.args.feed.now in
-    let host = view_of g.H.Disk.told g.H.Disk.may_leave g.H.Disk.faults g.H.Disk.above c.args.host.now in
-    let file = files_by g.F.Files.held g.F.Files.faults in
-    let at = streams_by (source_by g.I.Source.left g.I.Source.faults) (sink_by g.K.Sink.written g.K.Sink.faults) in
+    let feed = feed_by g.E.Feed c.args.feed.now in
+    let host = view_of g.H.Disk c.args.host.now in
+    let file = files_by g.F.Files in
+    let at = streams_by g.I.Source g.K.Sink in
     let before = bench (file c.args.files.now) (at c.args.input.now c.args.out.now) in
     let after = bench (file c.try_by_files.new.files) (at c.try_by_files.new.input c.try_by_files.new.out) in
     let names = names_of c.file_names-names-in-Trial.result in

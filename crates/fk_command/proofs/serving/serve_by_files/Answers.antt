@@ -6,16 +6,16 @@ use Rattle.fk_command.specs.Running.{RefusesFiles}
 use Rattle.fk_trial.specs.Streams.{SourceView}
 use Rattle.fk_program.specs.Faults.{fault_of}
 use Rattle.fk_program.specs.Files.{files_by}
-use Rattle.fk_command.specs.World.{outside_of}
+use Rattle.fk_daemon.specs.Outside.{outside_by}
 use Rattle.fk_command.proofs.Counting.{refused-counts, refused-files, served-counts}
 use Rattle.fk_command.proofs.Served.{served}
 use Rattle.fk_command.proofs.serving.serve_by_files.Goals as goal
 
 pub returns-in-Err : goal.returns-in-Err
 returns-in-Err g c =
-    let file = files_by g.F.Files.held g.F.Files.faults in
-    let sink = sink_by g.K.Sink.written g.K.Sink.faults in
-    let at = outside_of g.E.Feed g.H.Disk g.K.Sink in
+    let file = files_by g.F.Files in
+    let sink = sink_by g.K.Sink in
+    let at = outside_by g.E.Feed g.H.Disk g.K.Sink in
     let names = names_of c.args.asked.now.names in
     let before = at c.args.feed.now c.args.host.now c.args.out.now in
     let after = at c.args.feed.now c.args.host.now c.refuse.new.out in
@@ -29,8 +29,8 @@ returns-in-Err g c =
 
 pub returns : goal.returns
 returns g c =
-    let file = files_by g.F.Files.held g.F.Files.faults in
-    let at = outside_of g.E.Feed g.H.Disk g.K.Sink in
+    let file = files_by g.F.Files in
+    let at = outside_by g.E.Feed g.H.Disk g.K.Sink in
     let asked = c.args.asked.now in
     let before = at c.args.feed.now c.args.host.now c.args.out.now in
     let after = at c.serve.new.feed c.serve.new.host c.serve.new.out in

@@ -14,8 +14,8 @@ use Rattle.fk_command.proofs.trying.try_by_files.Goals as goal
 
 pub returns-in-Err : goal.returns-in-Err
 returns-in-Err g c =
-    let file = files_by g.F.Files.held g.F.Files.faults in
-    let sink = sink_by g.K.Sink.written g.K.Sink.faults in
+    let file = files_by g.F.Files in
+    let sink = sink_by g.K.Sink in
     let old = file c.args.files.now in
     let new = file c.read_files.new.files in
     let names = names_of c.args.names in
@@ -33,8 +33,8 @@ returns-in-Err g c =
 
 pub returns : goal.returns
 returns g c =
-    let file = files_by g.F.Files.held g.F.Files.faults in
-    let at = streams_by (source_by g.I.Source.left g.I.Source.faults) (sink_by g.K.Sink.written g.K.Sink.faults) in
+    let file = files_by g.F.Files in
+    let at = streams_by g.I.Source g.K.Sink in
     let before = at c.args.input.now c.args.out.now in
     let after = at c.trial.new.input c.trial.new.out in
     let task = c.task_of-task.result in
