@@ -31,21 +31,25 @@ HoldsSome told = IsSomeAnd told (λ now. (ledger : List Change) × HoldsLedger n
 abbrev pub HoldsTurns : Option (List ℕ) → Type 0
 HoldsTurns left = IsSomeAnd left (λ text. (turns : List FeedTurn) × ReadsTurns (pieces text) turns None)
 
+-- the areas hold a ledger, and the host tells to the end
+abbrev pub HoldsToTheEnd : Option Told → Option Told → Type 0
+HoldsToTheEnd old new = HoldsSome old × IsSome new
+
 -- what the command reads is there, and right
-abbrev pub IsReadyFor : Command → World → Type 0
-IsReadyFor (command.Serve conf access packets turns verbose) at =
-    HoldsRight conf_fault conf at.files × HoldsRight access_fault access at.files × HoldsSome at.outside.host.told
-IsReadyFor (command.Trial conf access quiet verbose) at =
-    HoldsRight conf_fault conf at.files × HoldsRight access_fault access at.files × HoldsTurns at.input.left
-IsReadyFor command.List at = HoldsSome at.outside.host.told
-IsReadyFor (command.Send send) at = ⊥
-IsReadyFor command.KeyGen at = ⊥
-IsReadyFor (command.Encode file name) at = ⊥
-IsReadyFor (command.Decode file name) at = ⊥
-IsReadyFor command.Journal at = ⊥
-IsReadyFor (command.Generate count) at = ⊥
-IsReadyFor command.Help at = Unit {0}
-IsReadyFor command.Version at = Unit {0}
+abbrev pub IsReadyFor : Command → World → World → Type 0
+IsReadyFor (command.Serve conf access packets turns verbose) old new = HoldsRight conf_fault conf old.files
+    × HoldsRight access_fault access old.files × HoldsToTheEnd old.outside.host.told new.outside.host.told
+IsReadyFor (command.Trial conf access quiet verbose) old new =
+    HoldsRight conf_fault conf old.files × HoldsRight access_fault access old.files × HoldsTurns old.input.left
+IsReadyFor command.List old new = HoldsToTheEnd old.outside.host.told new.outside.host.told
+IsReadyFor (command.Send send) old new = ⊥
+IsReadyFor command.KeyGen old new = ⊥
+IsReadyFor (command.Encode file name) old new = ⊥
+IsReadyFor (command.Decode file name) old new = ⊥
+IsReadyFor command.Journal old new = ⊥
+IsReadyFor (command.Generate count) old new = ⊥
+IsReadyFor command.Help old new = Unit {0}
+IsReadyFor command.Version old new = Unit {0}
 
 -- no count rose
 pub record CountsNone (old new : World) : Type 0 where
@@ -55,13 +59,12 @@ pub record CountsNone (old new : World) : Type 0 where
   pub input : Rose old.input.faults new.input.faults → ⊥
   pub output : Rose old.outside.sink.faults new.outside.sink.faults → ⊥
 
--- the words ask for a command for which all is ready, nothing failed, and the host tells to the end
+-- the words ask for a command for which all is ready, and nothing failed
 pub record MeetsNoFault (words : List (List ℕ)) (old new : World) : Type 0 where
   pub command : Command
   pub reads : ReadsWords Daemon words command
-  pub ready : IsReadyFor command old
+  pub ready : IsReadyFor command old new
   pub counts : CountsNone old new
-  pub tells : IsSome new.outside.host.told
 
 -- the run ended well, or memory was wanting
 abbrev pub EndsWell : Status → Type 0
