@@ -95,6 +95,7 @@ finish-unopened task ledger old feed limits begins given fails logs = record {
     legal = record { turns = tt; no_fault_before = tt; numbered = begins.rests.stands.stands.tied.stands.orderly.numbered };
     limits = record { fits = none_reached task.limits limits; before = λ front taken later e reached. no_turn_before front taken later e };
     memory = λ wants front last placed. absurd cc;
+    code = λ wants front last placed. absurd cc;
     settled = λ wants front last placed. absurd cc;
     wants = λ wants none. cc;
     opens = (refl, refl);

@@ -24,7 +24,7 @@ use Rattle.fk_log.specs.Log.RefusalLine.{Told, Untold}
 use Rattle.fk_log.specs.Writing.{Logs}
 use Rattle.fk_log.proofs.Turns.{lines_of_turns-append}
 use Rattle.fk_child.specs.View.{Adds, made_of}
-use Rattle.fk_turn.specs.Rules.{rules_by}
+use Rattle.fk_turn.specs.Rules.{BringsRightCode, rules_by}
 use Rattle.fk_turn.specs.Serving.{FailsAtDisk, WantsMemory, OwesItsLive}
 use Rattle.fk_daemon.specs.declared.task.Task.{Task}
 use Rattle.fk_daemon.specs.declared.session.Session.{Session}
@@ -80,6 +80,7 @@ serving-uncut task ledger ending turns old now going whole fits tells fails = re
   };
   limits = record { fits = fits; before = going.before };
   memory = λ wants front last placed. absurd (let never : true ≡ false = ap cuts_turn (sym wants) ∙ whole in cc);
+  code = λ wants front last placed. absurd (let never : true ≡ false = ap cuts_turn (sym wants) ∙ whole in cc);
   settled = λ wants front last placed. absurd (let never : true ≡ false = ap cuts_turn (sym wants) ∙ whole in cc);
   wants = λ wants none. let never : true ≡ false = ap cuts_turn (sym wants) ∙ whole in cc;
   opens = tt;
@@ -150,6 +151,9 @@ module _ (task : Task) (ledger : List Change) (turns : List TakenTurn) (old mid 
   Wants front last =
       WantsAtDatagram (rules_by task.policy) (after_turns (entry ledger) front) last ⊎ WantsAtClose (rules_by task.policy) (after_turns (entry ledger) front) last
 
+  abbrev Codes : List TakenTurn → TakenTurn → Type 0
+  Codes front last = BringsRightCode task.policy last.turn ⊎ WantsAtClose (rules_by task.policy) (after_turns (entry ledger) front) last
+
   -- what is said of the turn that was cut
   record Cuts (ending : Ending) (refusal : RefusalLine) (failing : List Change) (whole : Bool) : Type 0 where
     may : IsTrue (cuts_turn ending)
@@ -160,6 +164,7 @@ module _ (task : Task) (ledger : List Change) (turns : List TakenTurn) (old mid 
     numbered : AreNumbered (past_after place.past taken.items)
     adds : Adds taken.items place.ledger (taken.changes ++ failing) whole mid.outside.host new.outside.host
     wants : ending ≡ AtWantOfMemory → Wants turns taken
+    code : ending ≡ AtWantOfMemory → Codes turns taken
     settled : ending ≡ AtWantOfMemory → Settles turns taken
     tells : MayTellAt ending taken.items refusal
     fails : FailsNext ending failing (run_of task ledger old.outside.host.faults ending all)
@@ -193,6 +198,9 @@ module _ (task : Task) (ledger : List Change) (turns : List TakenTurn) (old mid 
     memory = λ wants front last placed.
         let one = last-one turns front taken last placed in
         subst (λ (t : TakenTurn). Wants front t) (sym one.1) (subst (λ (f : List TakenTurn). Wants f taken) (sym one.0) (cuts.wants wants));
+    code = λ wants front last placed.
+        let one = last-one turns front taken last placed in
+        subst (λ (t : TakenTurn). Codes front t) (sym one.1) (subst (λ (f : List TakenTurn). Codes f taken) (sym one.0) (cuts.code wants));
     settled = λ wants front last placed.
         let one = last-one turns front taken last placed in
         subst (λ (t : TakenTurn). Settles front t) (sym one.1) (subst (λ (f : List TakenTurn). Settles f taken) (sym one.0) (cuts.settled wants));
@@ -236,6 +244,7 @@ finish-disk task ledger turns old mid new turn going calm under takes fails =
       numbered = fails.numbered;
       adds = fails.adds;
       wants = λ wants. absurd cc;
+      code = λ wants. absurd cc;
       settled = λ wants. absurd cc;
       tells = refl;
       fails = (fails.next, fails.later, refl, planned_is);
@@ -270,6 +279,7 @@ finish-memory task ledger turns old mid new turn going calm under takes wants =
       numbered = wants.numbered;
       adds = subst (λ (changes : List Change). Adds taken.items (after_turns (entry ledger) turns).ledger changes true mid.outside.host new.outside.host) (sym (append-nil taken.changes)) wants.adds;
       wants = λ e. wants.cause;
+      code = λ e. wants.code;
       settled = λ e. wants.settled;
       tells = wants.may;
       fails = refl;

@@ -285,6 +285,7 @@ module _ (policy : Policy) (place : Place) (turn : FeedTurn) (s0 s1 : Scene) (b 
             formed = w.formed;
             fresh = λ m. w.fresh (subst (λ (ds : List (List ℕ)). Contains ds ((rules_by policy).digest w.datagram)) (sym (seen-append_none place.ledger (map Done ids) (opens-settled ids))) m);
           });
+          code = inl (w.source, w.datagram, w.brought, w.code);
           settled = ap (map Done) (dones-part ids w.changes none)
               ∙ sym (ap (λ (xs : List Item). settlements place.past (b.start ∷ xs)) (sym (append-nil b.polled)) ∙ settles-polled (rules_by policy) place turn b.start b.polled ids begins [] tt);
           asked = elim w.front [
@@ -442,6 +443,7 @@ module _ (policy : Policy) (place : Place) (turn : FeedTurn) (s0 s1 : Scene) (b 
               cut = cut-among (rules_by policy) place turn b.start b.polled ids begins a.opened done.closed rest.0 a.attempts (turn-tries turn.moment behind_closes rest.0 rest.1)
                   (each-due (done.closed ++ rest.0) (next-joined turn.moment close_place done.closed rest.0 done.attempts rest.1));
               cause = inr (close-wanted next.0 next.1);
+              code = inr (close-wanted next.0 next.1);
               settled = ap (map Done) (dones-part ids (recorded_by answer_given) (dones-recorded answer_given))
                   ∙ sym (ap (λ (xs : List Item). settlements place.past (b.start ∷ xs)) (append_assoc b.polled a.opened done.closed)
                   ∙ settles-polled (rules_by policy) place turn b.start b.polled ids begins (a.opened ++ done.closed) (all-joined Tries a.opened done.closed tries closed-tries));

@@ -38,7 +38,7 @@ use Rattle.fk_turn.specs.declared.policy.Policy.{Policy}
 use Rattle.fk_turn.specs.declared.turn_err.TurnErr.{TurnErr}
 use Rattle.fk_turn.specs.declared.turn_err.TurnErr.TheVariants.{Disk, NoMemory}
 use Rattle.fk_turn.specs.Daemon.{DaemonState, Scene, DaemonStands, AtRest, scene}
-use Rattle.fk_turn.specs.Rules.{rules_by, permit_of}
+use Rattle.fk_turn.specs.Rules.{HasRightCode, rules_by, permit_of}
 use Rattle.fk_turn.specs.Serving.{Serves, calls_for}
 use Rattle.fk_turn.specs.Parts.{answer_at, answering, Answers, AnswersWhole, FailsToRecord, WantsToAnswer, IsGrantedBy, IsDraftOf, IsLike, datagram_turn}
 use Rattle.fk_child.proofs.Images.{adds-append, adds-change, calls-none, calls-then, calls-same}
@@ -183,6 +183,7 @@ module _ (policy : Policy) (place : Place) (moment : ℕ) (source : Ip4) (datagr
           brought = refl;
           formed = granted.formed;
           fresh = fresh-unseen (rules.digest datagram) place.ledger granted.unseen;
+          code = inr (permit, granted.admitted);
           changes = OpenChange item ∷ [];
           front = inr (sym (ap recorded_by opens), calls-same (4 + 1) (calls_for [] (OpenChange item ∷ []) + 1) h0 h2 refl (calls-then 4 1 h0 h1 h2 four goes.calls));
           adds = adds-append [] [] place.ledger (OpenChange item ∷ []) [] (record { attempts = inl refl; others = inr tt }) true h0 h1 h2 adds1 faults goes.adds;
@@ -263,8 +264,8 @@ like-rests conf d e h o place like rest =
 -- memory was wanting before the record
 pub wants-before : (policy : Policy) (place : Place) (moment : ℕ) (source : Ip4) (datagram : List ℕ) (d e : DaemonState) (h : View) (o : Output)
     → AtRest policy.conf.now (scene d h o) place → (rules_by policy).misshapen datagram ≡ None → is_seen ((rules_by policy).digest datagram) d.book.changes ≡ false
-    → Adds [] place.ledger [] true h h → IsLike d e → WantsToAnswer policy place (datagram_turn moment source datagram) (scene d h o) (scene e h o)
-wants-before policy place moment source datagram d e h o rest formed unseen adds like =
+    → HasRightCode policy moment source datagram → Adds [] place.ledger [] true h h → IsLike d e → WantsToAnswer policy place (datagram_turn moment source datagram) (scene d h o) (scene e h o)
+wants-before policy place moment source datagram d e h o rest formed unseen code adds like =
     let at : FeedTurn = datagram_turn moment source datagram in
     let unseen_there : is_seen ((rules_by policy).digest datagram) place.ledger ≡ false =
     ap (is_seen ((rules_by policy).digest datagram)) (sym rest.stands.changes) ∙ unseen in
@@ -274,6 +275,7 @@ wants-before policy place moment source datagram d e h o rest formed unseen adds
       brought = refl;
       formed = formed;
       fresh = fresh-unseen ((rules_by policy).digest datagram) place.ledger unseen_there;
+      code = code;
       changes = [];
       front = inl (refl, calls-none h);
       adds = adds;
@@ -317,6 +319,7 @@ answers-from policy place at d e h o new (Err NoMemory) a = record {
   brought = a.brought;
   formed = a.formed;
   fresh = a.fresh;
+  code = a.code;
   changes = a.changes;
   front = a.front;
   adds = a.adds;

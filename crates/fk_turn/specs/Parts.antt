@@ -41,7 +41,7 @@ use Rattle.fk_turn.specs.declared.turn_err.TurnErr.{TurnErr}
 use Rattle.fk_turn.specs.declared.turn_err.TurnErr.TheVariants.{Disk, NoMemory}
 use Rattle.fk_turn.specs.declared.decision.Draft.{Draft}
 use Rattle.fk_turn.specs.Daemon.{DaemonState, Scene}
-use Rattle.fk_turn.specs.Rules.{rules_by, permit_of}
+use Rattle.fk_turn.specs.Rules.{HasRightCode, rules_by, permit_of}
 use Rattle.fk_turn.specs.Serving.{Part, Serves, OwesItsLive, calls_for}
 
 -- the line of an end, or of a failed poll
@@ -128,13 +128,15 @@ pub record FailsToRecord (policy : Policy) (place : Place) (turn : FeedTurn) (ol
   pub book : new.daemon.book.changes ≡ place.ledger
   pub parks : OwesItsLive new.daemon
 
--- Memory was wanting for a datagram of the right shape that is not recorded: before its record, or in the host's start behind it.
+-- Memory was wanting for a datagram of the right shape, with a right HMAC, that is not recorded: before its record, or in the host's
+-- start behind it.
 pub record WantsToAnswer (policy : Policy) (place : Place) (turn : FeedTurn) (old new : Scene) : Type 0 where
   pub source : Ip4
   pub datagram : List ℕ
   pub brought : turn.input ≡ Datagram source datagram
   pub formed : (rules_by policy).misshapen datagram ≡ None
   pub fresh : Contains (seen place.ledger) ((rules_by policy).digest datagram) → ⊥
+  pub code : HasRightCode policy turn.moment source datagram
   pub changes : List Change
   pub front : ((changes ≡ []) × MakesCalls 0 old.host new.host)
       ⊎ ((changes ≡ recorded_by (answer_at policy place turn)) × MakesCalls (calls_for [] changes + 1) old.host new.host)

@@ -1,7 +1,8 @@
 -- The rules of a daemon with its configuration and its stanzas, as a run takes them.
-use Rattle.std.specs.Prelude.{ℕ, ◌-◌, List, [], ◌∷◌, slice_get, Option, Some, None, Result, Ok, Err}
+use Rattle.std.specs.Prelude.{◌≡◌, ◌⊎◌, ℕ, ◌-◌, ◌<◌, List, [], ◌∷◌, slice_get, Option, Some, None, Result, Ok, Err}
 use Rattle.std.specs.Option.{option_map}
 use Rattle.std.proofs.Common.{lit<}
+use Rattle.fk_base.specs.declared.address.Ip4.{Ip4}
 use Rattle.fk_base.specs.declared.grant.Grant.{Grant}
 use Rattle.fk_base.specs.declared.pair.Pair.{Pair}
 use Rattle.fk_base.specs.declared.pair.Proto.TheVariants.{Tcp}
@@ -18,7 +19,7 @@ use Rattle.fk_conf.specs.declared.conf.Conf.{Conf}
 use Rattle.fk_access.specs.declared.stanza.Stanza.{Stanza}
 use Rattle.fk_admit.specs.declared.refusal.Refusal.{Refusal}
 use Rattle.fk_admit.specs.declared.refusal.Refusal.TheVariants as refusal
-use Rattle.fk_admit.specs.Admit.{admitted, refusal_of_shape}
+use Rattle.fk_admit.specs.Admit.{admitted, blocks_in_all, refusal_of_shape}
 use Rattle.fk_admit.specs.Arrival.{arrival}
 use Rattle.fk_ledger.specs.Book.{has_room}
 use Rattle.fk_turn.specs.declared.arrival.Arrival.{Arrival}
@@ -90,3 +91,14 @@ input_of (Datagram source bytes) = DatagramInput source bytes.now
 -- a turn, as a run takes it
 abbrev pub turn_of : Arrival → FeedTurn
 turn_of arrival = record { moment = arrival.moment; input = input_of arrival.brought }
+
+-- the datagram has the HMAC of a stanza that serves its source; as one that is granted has, too
+abbrev pub HasRightCode : Policy → ℕ → Ip4 → List ℕ → Type 0
+HasRightCode policy moment source datagram =
+    (0 < blocks_in_all policy.access.now (arrival policy.conf.now.age source datagram moment))
+    ⊎ ((permit : Permit) × ((rules_by policy).admit moment source datagram ≡ Granted permit))
+
+-- the turn has brought such a datagram
+abbrev pub BringsRightCode : Policy → FeedTurn → Type 0
+BringsRightCode policy turn =
+    (source : Ip4) × (datagram : List ℕ) × (turn.input ≡ DatagramInput source datagram) × HasRightCode policy turn.moment source datagram

@@ -25,7 +25,7 @@ use Rattle.fk_turn.specs.declared.policy.Policy.{Policy}
 use Rattle.fk_turn.specs.declared.turn_err.TurnErr.{TurnErr}
 use Rattle.fk_turn.specs.declared.turn_err.TurnErr.TheVariants.{Disk, NoMemory}
 use Rattle.fk_turn.specs.Daemon.{DaemonState, Scene, DaemonStands, AtRest}
-use Rattle.fk_turn.specs.Rules.{rules_by, turn_of}
+use Rattle.fk_turn.specs.Rules.{BringsRightCode, rules_by, turn_of}
 
 -- what a part of a turn adds to the trace, to the ledger and to the log
 pub record Part : Type 0 where
@@ -94,6 +94,8 @@ pub record WantsMemory (policy : Policy) (place : Place) (turn : FeedTurn) (old 
   pub of_turn : taken.turn ≡ turn
   pub cut : CutTurn (rules_by policy) place taken
   pub cause : WantsAtDatagram (rules_by policy) place taken ⊎ WantsAtClose (rules_by policy) place taken
+  -- no datagram without a right HMAC lets it be wanting
+  pub code : BringsRightCode policy taken.turn ⊎ WantsAtClose (rules_by policy) place taken
   pub settled : map Done (dones taken.changes) ≡ settlements place.past taken.items
   pub asked : ((opens taken.changes ≡ []) × MakesCalls (calls_for taken.items taken.changes) old.host new.host)
       ⊎ MakesCalls (calls_for taken.items taken.changes + 1) old.host new.host

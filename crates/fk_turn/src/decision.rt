@@ -1,6 +1,6 @@
 //! What a datagram is answered, before the room for its record is tested; and its record.
 ghost use Rattle.std.specs.Prelude.{◌≡◌, ◌+◌, ◌<◌, ◌≤◌, false, length, Ok, IfOk, MatchResult, OnErr, None};
-ghost use Rattle.fk_admit.specs.Admit.{admitted, refusal_of_shape};
+ghost use Rattle.fk_admit.specs.Admit.{admitted, blocks_in_all, refusal_of_shape};
 ghost use Rattle.fk_admit.specs.AdmitFault.{IsAdmitFault};
 ghost use Rattle.fk_admit.specs.Arrival.{arrival};
 ghost use Rattle.fk_base.specs.CommandWords.{AreCommandWords};
@@ -41,6 +41,8 @@ pub(crate) fn decide(
     ensures granted { (grant : Grant) → result ≡ Ok (Decision.Granted grant) → IsGrantedBy policy.now ledger.now.changes moment source bytes.now grant }
     ensures formed { OnErr result ((rules_by policy.now).misshapen bytes.now ≡ None) }
     ensures fresh { OnErr result (is_seen ((rules_by policy.now).digest bytes.now) ledger.now.changes ≡ false) }
+    // Memory is asked for only behind a right HMAC.
+    ensures code { OnErr result (0 < blocks_in_all policy.now.access.now (arrival policy.now.conf.now.age source bytes.now moment)) }
 {
     if let Err(fault) = shape(bytes) {
         return Ok(Decision::Refused(why_of_shape(fault)));

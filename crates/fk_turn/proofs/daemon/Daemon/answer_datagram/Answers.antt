@@ -1,4 +1,4 @@
-use Rattle.std.proofs.Common.{◌≡◌, List, Result, Ok, refl, sym, ap, subst, ◌∙◌}
+use Rattle.std.proofs.Common.{◌≡◌, List, Result, Ok, inl, inr, refl, sym, ap, subst, ◌∙◌}
 use Rattle.fk_trace.specs.declared.refusal.LogWhy.{LogWhy}
 use Rattle.fk_trace.specs.declared.change.Change.{Change}
 use Rattle.fk_trace.specs.declared.change.Change.TheVariants.{Open as OpenChange}
@@ -12,7 +12,7 @@ use Rattle.fk_child.proofs.Images.{adds-none}
 use Rattle.fk_turn.specs.declared.decision.Decision.{Decision}
 use Rattle.fk_turn.specs.Daemon.{DaemonState, Scene, scene, AtRest, scene_by, output_by}
 use Rattle.fk_turn.specs.Parts.{Answers, AnswersWhole, IsDraftOf, IsGrantedBy, IsRefusedBy, answer_at, datagram_turn}
-use Rattle.fk_turn.specs.Rules.{rules_by}
+use Rattle.fk_turn.specs.Rules.{permit_of, rules_by}
 use Rattle.fk_turn.specs.contracts.daemon.Daemon.{the_view}
 use Rattle.fk_turn.proofs.Opening.{refuses, wanting, like-rests, wants-before, draft-follows, answers-from}
 use Rattle.fk_turn.proofs.daemon.Daemon.answer_datagram.Goals as goal
@@ -33,7 +33,7 @@ returns-in_err-why g c =
     let d : DaemonState = the_view c.self.inside in
     let s : Scene = scene d (view c.args.host.now) o0 in
     wanting c.args.policy.now place (datagram_turn c.args.moment c.args.source c.args.bytes.now) s s c.from_residual.result c.from_residual.ensures.1
-    (wants-before c.args.policy.now place c.args.moment c.args.source c.args.bytes.now d d (view c.args.host.now) o0 rest c.in_err-why.ensures.formed c.in_err-why.ensures.fresh
+    (wants-before c.args.policy.now place c.args.moment c.args.source c.args.bytes.now d d (view c.args.host.now) o0 rest c.in_err-why.ensures.formed c.in_err-why.ensures.fresh (inl c.in_err-why.ensures.code)
     (adds-none place.ledger (view c.args.host.now) rest.stands.stands.keeps) refl))
 
 pub returns-in-Refused : goal.returns-in-Refused
@@ -69,7 +69,7 @@ returns-in_err-draft-in-Granted g c =
     let unseen = ap (is_seen ((rules_by c.args.policy.now).digest c.args.bytes.now)) (ap (λ (d : DaemonState). d.book.changes) (sym c.self.view_is)) ∙ granted.unseen in
     wanting c.args.policy.now place (datagram_turn c.args.moment c.args.source c.args.bytes.now) (scene c.args.self.now h0 o0) (scene c.prepare.new.self h0 o0)
     c.from_residual-in_err-draft-in-Granted.result c.from_residual-in_err-draft-in-Granted.ensures.1
-    (wants-before c.args.policy.now place c.args.moment c.args.source c.args.bytes.now c.args.self.now c.prepare.new.self h0 o0 rest granted.formed unseen
+    (wants-before c.args.policy.now place c.args.moment c.args.source c.args.bytes.now c.args.self.now c.prepare.new.self h0 o0 rest granted.formed unseen (inr (permit_of c.args.policy.now.access.now c.in-Granted.grant, granted.admitted))
     (adds-none place.ledger (view c.args.host.now) rest.stands.stands.keeps) c.in_err-draft-in-Granted.ensures.rest)
 
 pub open-requires-clause-rests : goal.open-requires-clause-rests
