@@ -278,9 +278,9 @@ pub may-end : (policy : Policy) (how : Stop) (old : Standing) (session : Session
 may-end policy how old session streams stopped =
     (stopped.parks, stopped.few, by_stop how old.session.log _ (run_of policy (ending_of how (length stopped.turns + 1)) stopped.turns) stopped.sums)
   where
-    by_stop : (how : Stop) (log : LogState) (lines : List Line) (run : Run) → MaySumUp how (SumsUp session log lines run) → MaySumUp how (HoldsPages session)
-    by_stop stop.End log lines run sums = sums.pages
-    by_stop stop.BadLine log lines run sums = sums.pages
-    by_stop stop.LongInput log lines run sums = sums.pages
-    by_stop stop.ReadFault log lines run sums = sums.pages
-    by_stop stop.NoMemory log lines run sums = tt
+    by_stop : (how : Stop) (log : LogState) (written : List Line) (run : Run) → MaySumUp how (SumsUp session log written run) → MaySumUp how (HoldsPages session)
+    by_stop stop.End log written run sums = sums.pages
+    by_stop stop.BadLine log written run sums = sums.pages
+    by_stop stop.LongInput log written run sums = sums.pages
+    by_stop stop.ReadFault log written run sums = sums.pages
+    by_stop stop.NoMemory log written run sums = tt

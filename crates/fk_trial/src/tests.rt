@@ -141,9 +141,9 @@ static SERVED: [(&str, &str, &str); 11] = [
         "ready 0\n1700000000 from 10.0.0.7 refused port\nsummary turns 1 opens 0 closes 0 settled 0 refused 1 live 0\n",
     ),
     (
-        "a timed request",
-        "1700000000 10.0.0.7 8AAQIDBAUGB/6Y9MR8+u06nESdms6YKKxYJsUNfSMMBA2K+Oehf3k9JAHYmp0cERtQHmVirVPVyPX6qC22zjD/FL3qFldiQhPKlR342fLh1piHlmMEKAgN2Ai3IVNSuIoLt6E727oSk4hmfqHHOD/lCgJ5SPS6cX03rb7pX0qRKdin0trGqfFVzSjj+rFykmxFiKDAzzPFHE\n",
-        "ready 0\n1700000000 from 10.0.0.7 granted 1 stanza 1 until 1700000060\n1700000000 open 1 /bin/o 10.0.0.7 tcp/22\nsummary turns 1 opens 1 closes 0 settled 0 refused 0 live 1\n",
+        "a timed request is closed at its own second",
+        "1700000000 10.0.0.7 8AAQIDBAUGB/6Y9MR8+u06nESdms6YKKxYJsUNfSMMBA2K+Oehf3k9JAHYmp0cERtQHmVirVPVyPX6qC22zjD/FL3qFldiQhPKlR342fLh1piHlmMEKAgN2Ai3IVNSuIoLt6E727oSk4hmfqHHOD/lCgJ5SPS6cX03rb7pX0qRKdin0trGqfFVzSjj+rFykmxFiKDAzzPFHE\n1700000030\n1700000059\n1700000060\n1700000061\n",
+        "ready 0\n1700000000 from 10.0.0.7 granted 1 stanza 1 until 1700000060\n1700000000 open 1 /bin/o 10.0.0.7 tcp/22\n1700000030 ended open 1 good\n1700000060 close 1 /bin/c 10.0.0.7\n1700000061 ended close 1 good\n1700000061 settled 1\nsummary turns 5 opens 1 closes 1 settled 1 refused 0 live 0\n",
     ),
     (
         "no line",
@@ -170,7 +170,7 @@ fn lines_are_served(rt: HostRuntime) -> Result<(), Fail> {
 }
 
 // Other files: a name, the configuration, the stanzas, the input and the output.
-static FILED: [(&str, &str, &str, &str, &str); 5] = [
+static FILED: [(&str, &str, &str, &str, &str); 8] = [
     (
         "the first stanza grants",
         "",
@@ -205,6 +205,27 @@ static FILED: [(&str, &str, &str, &str, &str); 5] = [
         "SOURCE ANY\nOPEN_PORTS tcp/22\nKEY bob-key\nHMAC_KEY bob-mac\nCMD_CYCLE_OPEN /bin/o $IP $PROTO/$PORT\nCMD_CYCLE_CLOSE /bin/c $IP\nCMD_CYCLE_TIMER 30\n",
         "1700000000 10.0.0.7 8AAQIDBAUGB/6Y9MR8+u06nESdms6YKKxYJsUNfSMMBA2K+Oehf3k9GjWrJjbvDzHo6zIvF9t3/4On3wOSQ0vg3XkN2NBV+AQmHSwrnaNm/7SKg3bjpo8C71lL4IzWHfc3CL/dncz/ai+26HIEhFbe5gh7JT6eU9sZupT2lcQkcOZ19GWSa9Ou3oPWDnh8xaLUv0v4mA4RH8\n1700000001 10.0.0.7 8AAQIDBAUGB/6Y9MR8+u06nESdms6YKKxYJsUNfSMMBA2K+Oehf3k9GjWrJjbvDzHo6zIvF9t3/4On3wOSQ0vg3XkN2NBV+AQmHSwrnaNm/7SKg3bjpo8C71lL4IzWHfc3CL/dncz/ai+26HIEhFbe5gh7JT6eU9sZupT2lcQkcOZ19GWSa9Ou3oPWDnh8xaLUv0v4mA4RH8\n1700000002 10.0.0.7 8AAQIDBAUGByEUhHeDKpCrNyB70T7MEHsAkJkcMd+hURfRWUngnArXZYvhp/uDpgMFz8jxFmVAoz2ZcfD/dP5VQZ8bzB1ug719lvUR/gjF48WC4O8yg7nNOS4a5nUff9GqvThQKsrx2WHlwFWjXtvwxWj5hcU2rkA11wT6cFWErYvWx/LDL8njXRH5vUt7d0Zvc4MNhC9WC4\n",
         "ready 0\n1700000000 from 10.0.0.7 granted 1 stanza 1 until 1700000030\n1700000000 open 1 /bin/o 10.0.0.7 tcp/22\n1700000001 ended open 1 good\n1700000001 from 10.0.0.7 refused replay\n1700000002 from 10.0.0.7 refused full\nsummary turns 3 opens 1 closes 0 settled 0 refused 2 live 1\n",
+    ),
+    (
+        "comments alone are no stanza",
+        "",
+        "# nobody may open anything\n\n  # SOURCE ANY\n",
+        "1700000000 10.0.0.7 8AAQIDBAUGB/6Y9MR8+u06nESdms6YKKxYJsUNfSMMBA2K+Oehf3k9GjWrJjbvDzHo6zIvF9t3/4On3wOSQ0vg3XkN2NBV+AQmHSwrnaNm/7SKg3bjpo8C71lL4IzWHfc3CL/dncz/ai+26HIEhFbe5gh7JT6eU9sZupT2lcQkcOZ19GWSa9Ou3oPWDnh8xaLUv0v4mA4RH8\n",
+        "ready 0\n1700000000 from 10.0.0.7 refused no-stanza\nsummary turns 1 opens 0 closes 0 settled 0 refused 1 live 0\n",
+    ),
+    (
+        "a settled record makes room, and a packet that found none is not remembered",
+        "CYCLE_LIMIT 1\n",
+        "SOURCE ANY\nOPEN_PORTS tcp/22\nKEY bob-key\nHMAC_KEY bob-mac\nCMD_CYCLE_OPEN /bin/o $IP $PROTO/$PORT\nCMD_CYCLE_CLOSE /bin/c $IP\nCMD_CYCLE_TIMER 30\n",
+        "1700000000 10.0.0.7 8AAQIDBAUGB/6Y9MR8+u06nESdms6YKKxYJsUNfSMMBA2K+Oehf3k9GjWrJjbvDzHo6zIvF9t3/4On3wOSQ0vg3XkN2NBV+AQmHSwrnaNm/7SKg3bjpo8C71lL4IzWHfc3CL/dncz/ai+26HIEhFbe5gh7JT6eU9sZupT2lcQkcOZ19GWSa9Ou3oPWDnh8xaLUv0v4mA4RH8\n1700000001 10.0.0.7 8AAQIDBAUGByEUhHeDKpCrNyB70T7MEHsAkJkcMd+hURfRWUngnArXZYvhp/uDpgMFz8jxFmVAoz2ZcfD/dP5VQZ8bzB1ug719lvUR/gjF48WC4O8yg7nNOS4a5nUff9GqvThQKsrx2WHlwFWjXtvwxWj5hcU2rkA11wT6cFWErYvWx/LDL8njXRH5vUt7d0Zvc4MNhC9WC4\n1700000030\n1700000031 10.0.0.7 8AAQIDBAUGB2+QampqTsHsUf+6ePaQWwX6fy9uNA5C1Ba+xlu+L92xHTdW4HizqcN9WufuS6B7kspFiibLph2KRtxzS0UUtemv8iIHbS1/GgFjyTMr+kXT91r6uo7InwmA0otkmfbw35st+CdMtALcf4yFv6En/WcBEfhn8Pr1aPWak/DW0C6TeTH8swqYdaeiCuZu8JdZgM\n1700000061\n1700000062 10.0.0.7 8AAQIDBAUGByEUhHeDKpCrNyB70T7MEHsAkJkcMd+hURfRWUngnArXZYvhp/uDpgMFz8jxFmVAoz2ZcfD/dP5VQZ8bzB1ug719lvUR/gjF48WC4O8yg7nNOS4a5nUff9GqvThQKsrx2WHlwFWjXtvwxWj5hcU2rkA11wT6cFWErYvWx/LDL8njXRH5vUt7d0Zvc4MNhC9WC4\n",
+        "ready 0\n1700000000 from 10.0.0.7 granted 1 stanza 1 until 1700000030\n1700000000 open 1 /bin/o 10.0.0.7 tcp/22\n1700000001 ended open 1 good\n1700000001 from 10.0.0.7 refused full\n1700000030 close 1 /bin/c 10.0.0.7\n1700000031 ended close 1 good\n1700000031 settled 1\n1700000031 from 10.0.0.7 granted 2 stanza 1 until 1700000061\n1700000031 open 2 /bin/o 10.0.0.7 tcp/22\n1700000061 ended open 2 good\n1700000061 close 2 /bin/c 10.0.0.7\n1700000062 ended close 2 good\n1700000062 settled 2\n1700000062 from 10.0.0.7 granted 3 stanza 1 until 1700000092\n1700000062 open 3 /bin/o 10.0.0.7 tcp/22\nsummary turns 6 opens 3 closes 2 settled 2 refused 1 live 1\n",
+    ),
+    (
+        "the greatest age is the configuration's, on both sides",
+        "MAX_SPA_PACKET_AGE 60\n",
+        "SOURCE ANY\nOPEN_PORTS tcp/22\nKEY bob-key\nHMAC_KEY bob-mac\nCMD_CYCLE_OPEN /bin/o $IP $PROTO/$PORT\nCMD_CYCLE_CLOSE /bin/c $IP\nCMD_CYCLE_TIMER 30\n",
+        "1699999939 10.0.0.7 8AAQIDBAUGB/6Y9MR8+u06nESdms6YKKxYJsUNfSMMBA2K+Oehf3k9GjWrJjbvDzHo6zIvF9t3/4On3wOSQ0vg3XkN2NBV+AQmHSwrnaNm/7SKg3bjpo8C71lL4IzWHfc3CL/dncz/ai+26HIEhFbe5gh7JT6eU9sZupT2lcQkcOZ19GWSa9Ou3oPWDnh8xaLUv0v4mA4RH8\n1700000061 10.0.0.7 8AAQIDBAUGB/6Y9MR8+u06nESdms6YKKxYJsUNfSMMBA2K+Oehf3k9GjWrJjbvDzHo6zIvF9t3/4On3wOSQ0vg3XkN2NBV+AQmHSwrnaNm/7SKg3bjpo8C71lL4IzWHfc3CL/dncz/ai+26HIEhFbe5gh7JT6eU9sZupT2lcQkcOZ19GWSa9Ou3oPWDnh8xaLUv0v4mA4RH8\n1700000060 10.0.0.7 8AAQIDBAUGB/6Y9MR8+u06nESdms6YKKxYJsUNfSMMBA2K+Oehf3k9GjWrJjbvDzHo6zIvF9t3/4On3wOSQ0vg3XkN2NBV+AQmHSwrnaNm/7SKg3bjpo8C71lL4IzWHfc3CL/dncz/ai+26HIEhFbe5gh7JT6eU9sZupT2lcQkcOZ19GWSa9Ou3oPWDnh8xaLUv0v4mA4RH8\n1699999940 10.0.0.7 8AAQIDBAUGByEUhHeDKpCrNyB70T7MEHsAkJkcMd+hURfRWUngnArXZYvhp/uDpgMFz8jxFmVAoz2ZcfD/dP5VQZ8bzB1ug719lvUR/gjF48WC4O8yg7nNOS4a5nUff9GqvThQKsrx2WHlwFWjXtvwxWj5hcU2rkA11wT6cFWErYvWx/LDL8njXRH5vUt7d0Zvc4MNhC9WC4\n",
+        "ready 0\n1699999939 from 10.0.0.7 refused age\n1700000061 from 10.0.0.7 refused age\n1700000060 from 10.0.0.7 granted 1 stanza 1 until 1700000090\n1700000060 open 1 /bin/o 10.0.0.7 tcp/22\n1699999940 ended open 1 good\n1699999940 from 10.0.0.7 granted 2 stanza 1 until 1699999970\n1699999940 open 2 /bin/o 10.0.0.7 tcp/22\nsummary turns 4 opens 2 closes 0 settled 0 refused 2 live 2\n",
     ),
 ];
 
