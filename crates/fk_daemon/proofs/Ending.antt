@@ -29,7 +29,7 @@ use Rattle.fk_log.specs.Printing.{SinkView, Prints}
 use Rattle.fk_daemon.specs.Outside.{Outside}
 use Rattle.fk_daemon.specs.Account.{tried_changes, is_whole}
 use Rattle.fk_daemon.specs.Moments.{RunMoments}
-use Rattle.fk_daemon.specs.Serving.{HasStatus, HasCauses, ServesRun, OpensInVain, OpensNoLedger, SaysWhyUnopened}
+use Rattle.fk_daemon.specs.Serving.{HasStatus, AsksHost, HasCauses, ServesRun, OpensInVain, OpensNoLedger, SaysWhyUnopened}
 use Rattle.fk_daemon.specs.Sessions.{HoldsCrash, Standing, Begins, OpensDaemon, HasOpeningCause, SaysFault, Finishes, SaysEnd, MaySumUp, new_log, ending_of, summary_by, output_of}
 use Rattle.fk_daemon.proofs.Telling.{told-join, told-both, items-behind, opened-then}
 use Rattle.fk_daemon.proofs.Crashing.{SettlesCleanly, AttemptsOnce, moments-join}
@@ -125,6 +125,9 @@ module _ (task : Task) (old : Outside) (host : View) (daemon : DaemonState) (how
       trace = told-join old.host.told host.told late.host.told (λ x y. (y.trace ≡ x.trace) × (x.moments ≤ y.moments)) (AddsItems (trace_of run)) (AddsItems (trace_of run))
           (items-behind (trace_of run)) trace-kept run_is.adds.trace;
       moments = all-moments;
+      asked = λ wants front last placed.
+          told-join old.host.told host.told late.host.told (λ x y. (y.trace ≡ x.trace) × (x.moments ≤ y.moments)) (λ x y. AsksHost last y) (λ x y. AsksHost last y)
+          (λ x y z f g. g) trace-kept (run_is.asked wants front last placed);
     };
     is_broken = says.0.is_broken;
     printed = prints says.0.is_broken (shown_text task.verbosity (before ++ last run.ending)) (output (new_log task.verbosity) old.sink.written old.sink.faults)

@@ -104,6 +104,7 @@ finish-unopened task ledger old feed limits begins given fails logs = record {
   };
   given = given;
   adds = adds-no_turn (rules_by task.policy) ledger old.outside.host.faults AtFeedFault old.outside.host begins.rests.stands.stands.keeps;
+  asked = λ wants front last placed. absurd cc;
   caused = record { feed = fails; disk = refl; end = tt };
   logs = logs;
   parks = begins.rests.stands.stands.tied.owes ∙ ap live_ids (sym begins.rests.stands.changes);

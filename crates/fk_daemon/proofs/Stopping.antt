@@ -1,10 +1,10 @@
 -- A run from its beginning to its stop.
-use Rattle.std.proofs.Common.{◌≡◌, ℕ, Bool, true, false, IsTrue, List, [], ◌∷◌, ◌++◌, length, map, refl, sym, ap, ◌∙◌, subst, ◌⊎◌, inl, inr, append_assoc, append-nil, length-append, arith, ◌≤◌}
+use Rattle.std.proofs.Common.{◌≡◌, ℕ, ◌+◌, Bool, true, false, IsTrue, List, [], ◌∷◌, ◌++◌, length, map, refl, sym, ap, ◌∙◌, subst, ◌⊎◌, inl, inr, append_assoc, append-nil, length-append, arith, ◌≤◌}
 use Rattle.std.proofs.lemmas.List.{map-append}
 use Rattle.fk_trace.specs.declared.change.Change.{Change}
 use Rattle.fk_trace.specs.Trace.{Item, past_after}
 use Rattle.fk_trace.specs.declared.change.Change.TheVariants.{Done}
-use Rattle.fk_trace.specs.Ledger.{live, dones}
+use Rattle.fk_trace.specs.Ledger.{live, opens, dones}
 use Rattle.fk_trace.specs.Settled.{settlements}
 use Rattle.fk_trace.specs.Decision.{FeedTurn, Rules}
 use Rattle.fk_trace.proofs.Splits.{none_before}
@@ -16,6 +16,7 @@ use Rattle.fk_run.specs.Planned.{planned}
 use Rattle.fk_run.specs.Ending.{ReachesLimit, FitsLimits, WantsAtDatagram, WantsAtClose}
 use Rattle.fk_run.proofs.Fronts.{past-after_turns}
 use Rattle.fk_host.specs.Count.{counted}
+use Rattle.fk_host.specs.Disk.{Told as TellsOf, IfTold}
 use Rattle.fk_ledger.specs.Book.{live_ids}
 use Rattle.fk_log.specs.Line.{Line}
 use Rattle.fk_log.specs.Log.{RefusalLine, MayTell, MayTellAt, opening_lines, lines_of_turns, turn_lines}
@@ -23,19 +24,20 @@ use Rattle.fk_log.specs.Log.Opening.{Opened}
 use Rattle.fk_log.specs.Log.RefusalLine.{Told, Untold}
 use Rattle.fk_log.specs.Writing.{Logs}
 use Rattle.fk_log.proofs.Turns.{lines_of_turns-append}
-use Rattle.fk_child.specs.View.{Adds, made_of}
+use Rattle.fk_child.specs.View.{MakesCalls, AddsItems, Adds, made_of}
 use Rattle.fk_turn.specs.Rules.{BringsRightCode, rules_by}
-use Rattle.fk_turn.specs.Serving.{FailsAtDisk, WantsMemory, OwesItsLive}
+use Rattle.fk_turn.specs.Serving.{BeginsAt, FailsAtDisk, WantsMemory, OwesItsLive, calls_for}
 use Rattle.fk_daemon.specs.declared.task.Task.{Task}
 use Rattle.fk_daemon.specs.declared.session.Session.{Session}
 use Rattle.fk_daemon.specs.declared.session.Stop.{Stop}
 use Rattle.fk_daemon.specs.declared.session.Stop.TheVariants as stop
 use Rattle.fk_daemon.specs.Outside.{Feeds}
 use Rattle.fk_daemon.specs.Account.{Account, FailsNext, IsServing}
-use Rattle.fk_daemon.specs.Serving.{HasCauses}
+use Rattle.fk_daemon.specs.Serving.{AsksHost, HasCauses}
 use Rattle.fk_daemon.specs.Sessions.{AddsTurns, Standing, Takes, TakesNone, SumsUp, MaySumUp, Finishes, ending_of, run_of, output_of, scene_of}
 use Rattle.fk_daemon.proofs.Behind.{items_in, changes_in, changes-push, ledger-behind, last-push, legal-whole, legal-cut, planned-push, feeds-then, cases-push, last-one}
 use Rattle.fk_daemon.proofs.Crashing.{AreNumbered, adds-ending}
+use Rattle.fk_daemon.proofs.Telling.{told-join, told-both}
 use Rattle.fk_daemon.proofs.Going.{Going, numbered-cut, unfailed-behind, adds-behind, logs-behind, going-none}
 
 -- no two children of the turns that were served have one number
@@ -89,9 +91,9 @@ serving-uncut task ledger ending turns old now going whole fits tells fails = re
 }
 
 finish-uncut : (task : Task) (ledger : List Change) (how : Stop) (turns : List TakenTurn) (old now : Standing) → Going task ledger turns old now
-    → IsServing task (uncut task ledger old.outside.host.faults (ending_of how) turns)
+    → cuts_turn (ending_of how) ≡ false → IsServing task (uncut task ledger old.outside.host.faults (ending_of how) turns)
     → HasCauses (ending_of how) old.outside now.outside → Finishes task ledger how old now
-finish-uncut task ledger how turns old now going serving caused = record {
+finish-uncut task ledger how turns old now going whole serving caused = record {
   account = uncut task ledger old.outside.host.faults (ending_of how) turns;
   turns = turns;
   is = refl;
@@ -99,6 +101,7 @@ finish-uncut task ledger how turns old now going serving caused = record {
   given = going.given;
   adds = subst (λ (tried : List Change). AddsTurns (run_of task ledger old.outside.host.faults (ending_of how) turns) tried old.outside.host now.outside.host) (sym (append-nil (changes_in turns)))
       (adds-ending (rules_by task.policy) ledger old.outside.host.faults AtLimit (ending_of how) turns (changes_in turns) old.outside.host now.outside.host going.adds);
+  asked = λ wants front last placed. absurd (let never : true ≡ false = ap cuts_turn (sym wants) ∙ whole in cc);
   caused = caused;
   logs = going.logs;
   parks = parks-behind task ledger turns old now going;
@@ -109,7 +112,7 @@ finish-uncut task ledger how turns old now going serving caused = record {
 pub finish-limit : (task : Task) (ledger : List Change) (turns : List TakenTurn) (old now : Standing) → Going task ledger turns old now
     → now.outside.feed.faults ≡ old.outside.feed.faults → ReachesLimit task.limits turns → Finishes task ledger stop.Limit old now
 finish-limit task ledger turns old now going calm reached =
-    finish-uncut task ledger stop.Limit turns old now going (serving-uncut task ledger AtLimit turns old now going refl reached refl refl)
+    finish-uncut task ledger stop.Limit turns old now going refl (serving-uncut task ledger AtLimit turns old now going refl reached refl refl)
     (record { feed = calm; disk = going.disk; end = tt })
 
 -- the feed has ended
@@ -119,7 +122,7 @@ pub finish-end : (task : Task) (ledger : List Change) (turns : List TakenTurn) (
     → new.outside.feed.has_ended ≡ true → Finishes task ledger stop.End old new
 finish-end task ledger turns old mid new going calm under none same ended =
     let there = going-none task ledger turns old mid new going none in
-    finish-uncut task ledger stop.End turns old new there (serving-uncut task ledger AtEnd turns old new there refl under refl refl)
+    finish-uncut task ledger stop.End turns old new there refl (serving-uncut task ledger AtEnd turns old new there refl under refl refl)
     (record { feed = same ∙ calm; disk = there.disk; end = ended })
 
 -- the feed failed
@@ -129,7 +132,7 @@ pub finish-feed : (task : Task) (ledger : List Change) (turns : List TakenTurn) 
     → Finishes task ledger stop.FeedFault old new
 finish-feed task ledger turns old mid new going calm under none fails =
     let there = going-none task ledger turns old mid new going none in
-    finish-uncut task ledger stop.FeedFault turns old new there (serving-uncut task ledger AtFeedFault turns old new there refl under refl refl)
+    finish-uncut task ledger stop.FeedFault turns old new there refl (serving-uncut task ledger AtFeedFault turns old new there refl under refl refl)
     (record { feed = fails ∙ ap counted calm; disk = there.disk; end = tt })
 
 -- the account of a run whose last turn was cut
@@ -223,6 +226,36 @@ module _ (task : Task) (ledger : List Change) (turns : List TakenTurn) (old mid 
       subst (λ (given : List FeedTurn). Feeds Opened task.policy.conf.now.port given old.outside.feed.given new.outside.feed.given)
       (ap (λ (t : FeedTurn). map (λ (t : TakenTurn). t.turn) turns ++ t ∷ []) (sym is) ∙ sym (map-append (λ (t : TakenTurn). t.turn) turns (taken ∷ []))) feed
 
+-- what the turn's own calls say of the moments behind its first item
+asks-from : (last : TakenTurn) (items : List Item) → last.items ≡ items → (x y : TellsOf) → BeginsAt (x.moments + 1) items
+    → ((opens last.changes ≡ []) × (y.moments ≡ x.moments + calls_for items last.changes)) ⊎ (y.moments ≡ x.moments + (calls_for items last.changes + 1)) → AsksHost last y
+asks-from last [] e x y begun calls = absurd begun
+asks-from last (start ∷ further) e x y begun calls = record {
+  start = start;
+  further = further;
+  items = e;
+  calls = elim calls [
+    | inl none ↦ let made = none.1 in inl (none.0, omega (arith, begun, made))
+    | inr made ↦ inr (omega (arith, begun, made))
+  ];
+}
+
+-- in the turn that wanted memory, behind the turns before it
+asks-behind : (task : Task) (ledger : List Change) (turns : List TakenTurn) (old mid new : Standing) → Going task ledger turns old mid → (taken : TakenTurn)
+    → IfTold mid.outside.host.told new.outside.host.told (λ before later. BeginsAt (before.moments + 1) taken.items)
+    → ((opens taken.changes ≡ []) × MakesCalls (calls_for taken.items taken.changes) mid.outside.host new.outside.host)
+    ⊎ MakesCalls (calls_for taken.items taken.changes + 1) mid.outside.host new.outside.host
+    → IfTold old.outside.host.told new.outside.host.told (λ before later. AsksHost taken later)
+asks-behind task ledger turns old mid new going taken begun calls =
+    let here : IfTold mid.outside.host.told new.outside.host.told (λ before later. AsksHost taken later) =
+    elim calls [
+      | inl none ↦ told-both mid.outside.host.told new.outside.host.told (λ x y. BeginsAt (x.moments + 1) taken.items) (λ x y. y.moments ≡ x.moments + calls_for taken.items taken.changes)
+          (λ x y. AsksHost taken y) (λ x y b c. asks-from taken taken.items refl x y b (inl (none.0, c))) begun none.1
+      | inr made ↦ told-both mid.outside.host.told new.outside.host.told (λ x y. BeginsAt (x.moments + 1) taken.items) (λ x y. y.moments ≡ x.moments + (calls_for taken.items taken.changes + 1))
+          (λ x y. AsksHost taken y) (λ x y b c. asks-from taken taken.items refl x y b (inr c)) begun made
+    ] in
+    told-join old.outside.host.told mid.outside.host.told new.outside.host.told (AddsItems (items_in turns)) (λ x y. AsksHost taken y) (λ x y. AsksHost taken y) (λ x y z f g. g) going.adds.trace here
+
 -- the disk failed in a turn
 pub finish-disk : (task : Task) (ledger : List Change) (turns : List TakenTurn) (old mid new : Standing) (turn : FeedTurn) → Going task ledger turns old mid
     → mid.outside.feed.faults ≡ old.outside.feed.faults → (ReachesLimit task.limits turns → ⊥) → Takes turn mid.outside new.outside
@@ -257,6 +290,7 @@ finish-disk task ledger turns old mid new turn going calm under takes fails =
       serving = serving-cut task ledger turns old mid new taken going AtDiskFault Untold next false cuts under;
       given = cut-given task ledger turns old mid new taken going turn fails.of_turn takes;
       adds = cut-adds task ledger turns old mid new taken going AtDiskFault Untold next false cuts;
+      asked = λ wants. absurd cc;
       caused = record { feed = takes.faults ∙ calm; disk = fails.disk ∙ ap counted going.disk; end = tt };
       logs = cut-logs task ledger turns old mid new taken going AtDiskFault Untold next false cuts;
       parks = fails.parks;
@@ -292,6 +326,9 @@ finish-memory task ledger turns old mid new turn going calm under takes wants =
       serving = serving-cut task ledger turns old mid new taken going AtWantOfMemory wants.told [] true cuts under;
       given = cut-given task ledger turns old mid new taken going turn wants.of_turn takes;
       adds = cut-adds task ledger turns old mid new taken going AtWantOfMemory wants.told [] true cuts;
+      asked = λ ending front last placed.
+          subst (λ (t : TakenTurn). IfTold old.outside.host.told new.outside.host.told (λ x y. AsksHost t y)) (sym (last-one turns front taken last placed).1)
+          (asks-behind task ledger turns old mid new going taken wants.begun wants.asked);
       caused = record { feed = takes.faults ∙ calm; disk = wants.disk ∙ going.disk; end = tt };
       logs = cut-logs task ledger turns old mid new taken going AtWantOfMemory wants.told [] true cuts;
       parks = wants.parks;

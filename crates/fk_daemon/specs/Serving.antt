@@ -1,12 +1,15 @@
 -- What serving does, whole: one legal run whose log is printed; or nothing is served, since no ledger could be opened.
-use Rattle.std.specs.Prelude.{◌≡◌, ◌⊎◌, ℕ, Bool, true, false, List, [], ◌∷◌, if◌then◌else◌}
+use Rattle.std.specs.Prelude.{◌≡◌, ◌⊎◌, ℕ, ◌+◌, Bool, true, false, List, [], ◌∷◌, ◌++◌, Option, if◌then◌else◌}
 use Rattle.fk_base.specs.declared.status.Status.{Status}
 use Rattle.fk_base.specs.declared.status.Status.TheVariants as status
 use Rattle.fk_trace.specs.declared.change.Change.{Change}
-use Rattle.fk_run.specs.Run.{Ending, turns_of, trace_of}
+use Rattle.fk_trace.specs.Trace.{Item}
+use Rattle.fk_trace.specs.Ledger.{opens}
+use Rattle.fk_run.specs.Turn.{TakenTurn}
+use Rattle.fk_run.specs.Run.{Run, Ending, turns_of, trace_of}
 use Rattle.fk_run.specs.Run.Ending.{AtLimit, AtEnd, AtFeedFault, AtDiskFault, AtWantOfMemory}
 use Rattle.fk_host.specs.Count.{counted}
-use Rattle.fk_host.specs.Disk.{IfTold}
+use Rattle.fk_host.specs.Disk.{Told, IfTold}
 use Rattle.fk_log.specs.declared.verbosity.Verbosity.{Verbosity}
 use Rattle.fk_log.specs.Line.Line.{DiskFailedLine, DamagedLine}
 use Rattle.fk_log.specs.Log.{log_text}
@@ -15,6 +18,7 @@ use Rattle.fk_child.specs.View.{View, AddsItems}
 use Rattle.fk_journal.specs.Keeps.{IsOpening, LeavesOthers}
 use Rattle.fk_ledger.specs.Holds.{HoldsLedger, IsLedgerDamagedAt}
 use Rattle.fk_ledger.specs.Stretch.{IsLedgerOpening}
+use Rattle.fk_turn.specs.Serving.{calls_for}
 use Rattle.fk_daemon.specs.declared.task.Task.{Task}
 use Rattle.fk_log.specs.Printing.{Prints}
 use Rattle.fk_daemon.specs.Outside.{Outside, Feeds}
@@ -47,6 +51,21 @@ pub record HasCauses (ending : Ending) (old new : Outside) : Type 0 where
   pub disk : new.host.faults ≡ (if is_whole ending then old.host.faults else counted old.host.faults)
   pub end : EndsFeed ending new.feed.has_ended
 
+-- What a last turn asked of the host before memory was wanting in it: behind the Turn item one call for each further item and four for
+-- each change, and, where the turn made a record, one more that brought nothing. That is the host's own start.
+pub record AsksHost (last : TakenTurn) (later : Told) : Type 0 where
+  pub start : Item
+  pub further : List Item
+  pub items : last.items ≡ start ∷ further
+  pub calls : ((opens last.changes ≡ []) × (later.moments ≡ start.moments + calls_for further last.changes))
+      ⊎ (later.moments ≡ start.moments + calls_for further last.changes + 1)
+
+-- A run that ended for want of memory: behind a record of its last turn memory was wanting nowhere but in the host's own start.
+abbrev pub AsksHostLast : Run → Option Told → Option Told → Type 0
+AsksHostLast run old new =
+    run.ending ≡ AtWantOfMemory → (front : List TakenTurn) (last : TakenTurn) → run.turns ≡ front ++ last ∷ []
+    → IfTold old new (λ before later. AsksHost last later)
+
 -- The run of the account was served on the host: over the ledger that it held, with the run's items as the trace's new end, and its
 -- changes on the disk as far as each moment says.
 pub record RunsOn (account : Account) (old new : View) : Type 0 where
@@ -54,6 +73,7 @@ pub record RunsOn (account : Account) (old new : View) : Type 0 where
   pub faults : account.run.faults ≡ old.faults
   pub trace : IfTold old.told new.told (AddsItems (trace_of account.run))
   pub moments : IfTold old.told new.told (RunMoments account.run (tried_changes account) old.images new.images)
+  pub asked : AsksHostLast account.run old.told new.told
 
 -- A ledger was opened and served: this is one legal run over it, whose turns the feed gave, that was served on the host, and whose
 -- log was printed.
@@ -67,8 +87,9 @@ pub record ServesRun (task : Task) (old new : Outside) (answer : Status) : Type 
   pub answered : HasStatus account.run.ending is_broken answer
   pub caused : HasCauses account.run.ending old new
 
--- The calls of an opening that failed: the trace is as before, and where the areas held a ledger, a crash at any moment leaves it.
--- Whatever they held, the journal's area has the entries that it had, and the other areas are as before.
+-- The calls of an opening that failed: the trace is as before, and where the areas held a ledger, a crash at any moment leaves it, or,
+-- until the first call has ended well, what a crash could leave at entry. Whatever they held, the journal's area has the entries that
+-- it had, and the other areas are as before.
 pub record OpensInVain (old new : View) : Type 0 where
   pub trace : IfTold old.told new.told (λ before later. later.trace ≡ before.trace)
   pub moments : (ledger : List Change) → IfTold old.told new.told (λ before later. HoldsLedger before.areas ledger

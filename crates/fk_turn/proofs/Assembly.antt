@@ -43,6 +43,7 @@ use Rattle.fk_turn.specs.Serving.{Part, calls_for, joined, reached, Serves, Owes
 use Rattle.fk_turn.specs.Parts.{beginning, BeginsTurn, settlement, SettlesWhole, FailsToSettle, answering, Answers, AnswersWhole, FailsToRecord, WantsToAnswer, closing_part, AttemptsCloses, Closes}
 use Rattle.fk_turn.proofs.Items.{Tries, Polls, polls-no_turns, polls-close_none, opened-tries, opened-close_none, polled-polls, all-joined, tried-after, tried-none, tries-no_turns, ends_after-append, polls-others, tries-attempts}
 use Rattle.fk_turn.proofs.Places.{place-same, serves-join, next-stands, scene_next}
+use Rattle.fk_turn.proofs.Calls.{IsFirst, first-brought, first-then}
 use Rattle.fk_turn.proofs.Lines.{taken_turn, lines-of, no_refusal-told, dones-recorded, dones-part, opens-settled}
 use Rattle.fk_turn.proofs.Finishing.{finishes, passing, next-joined, next-tries, turn-tries}
 use Rattle.fk_child.proofs.Images.{adds-append, calls-then, calls-same}
@@ -146,6 +147,10 @@ module _ (policy : Policy) (place : Place) (turn : FeedTurn) (s0 s1 : Scene) (b 
   abbrev answer_given : Answer
   answer_given = given (rules_by policy) place turn b.start b.polled ids
 
+  -- the turn began with the first call
+  first1 : IsFirst b.start s0.host s1.host
+  first1 = first-brought b.start b.polled (calls_for (b.start ∷ b.polled) []) s0.host s1.host (omega arith) b.serves.adds.trace b.calls
+
   polls : AllByRecursion Polls b.polled
   polls = polled-polls b.polls.order b.polled b.polls.answered
 
@@ -229,6 +234,9 @@ module _ (policy : Policy) (place : Place) (turn : FeedTurn) (s0 s1 : Scene) (b 
     calls2 = calls-same (calls_for (b.start ∷ b.polled) [] + calls_for [] (map Done ids)) (calls_for (b.start ∷ b.polled) (map Done ids)) s0.host s2.host (omega arith)
         (calls-then (calls_for (b.start ∷ b.polled) []) (calls_for [] (map Done ids)) s0.host s1.host s2.host b.calls settles.calls)
 
+    first2 : IsFirst b.start s0.host s2.host
+    first2 = first-then b.start (calls_for [] (map Done ids)) s0.host s1.host s2.host first1 settles.calls
+
     -- the disk failed while the record was made
     pub fails-recording : (s3 : Scene) → FailsToRecord policy answer_place turn s2 s3 → FailsAtDisk policy place turn s0 s3
     fails-recording s3 f =
@@ -288,6 +296,10 @@ module _ (policy : Policy) (place : Place) (turn : FeedTurn) (s0 s1 : Scene) (b 
           code = inl (w.source, w.datagram, w.brought, w.code);
           settled = ap (map Done) (dones-part ids w.changes none)
               ∙ sym (ap (λ (xs : List Item). settlements place.past (b.start ∷ xs)) (sym (append-nil b.polled)) ∙ settles-polled (rules_by policy) place turn b.start b.polled ids begins [] tt);
+          begun = elim w.front [
+            | inl e ↦ first-then b.start 0 s0.host s2.host s3.host first2 e.1
+            | inr e ↦ first-then b.start (calls_for [] w.changes + 1) s0.host s2.host s3.host first2 e.1
+          ];
           asked = elim w.front [
             | inl e ↦ inl (
               ap (λ (cs : List Change). opens (map Done ids ++ cs)) e.0 ∙ ap opens (append-nil (map Done ids)) ∙ opens-settled ids,
@@ -447,6 +459,8 @@ module _ (policy : Policy) (place : Place) (turn : FeedTurn) (s0 s1 : Scene) (b 
               settled = ap (map Done) (dones-part ids (recorded_by answer_given) (dones-recorded answer_given))
                   ∙ sym (ap (λ (xs : List Item). settlements place.past (b.start ∷ xs)) (append_assoc b.polled a.opened done.closed)
                   ∙ settles-polled (rules_by policy) place turn b.start b.polled ids begins (a.opened ++ done.closed) (all-joined Tries a.opened done.closed tries closed-tries));
+              begun = first-then b.start (length done.closed + further) s0.host s3.host s4.host
+                  (first-then b.start (calls_for a.opened (recorded_by answer_given)) s0.host s2.host s3.host first2 a.calls) done.calls;
               asked = inr (calls-same (calls_for taken.items taken.changes + further) (calls_for taken.items taken.changes + 1) s0.host s4.host (omega (arith, one)) calls4);
               numbered = serves4.stands.stands.tied.stands.orderly.numbered;
               adds = serves4.adds;

@@ -13,6 +13,7 @@ use Rattle.fk_run.specs.Planned.{planned_turn}
 use Rattle.fk_run.specs.Run.Ending.{AtWantOfMemory}
 use Rattle.fk_run.specs.Ending.{WantsAtDatagram, WantsAtClose}
 use Rattle.fk_host.specs.Count.{counted}
+use Rattle.fk_host.specs.Disk.{IfTold}
 use Rattle.fk_log.specs.Line.{Line}
 use Rattle.fk_log.specs.Log.{RefusalLine, turn_lines, MayTellAt}
 use Rattle.fk_log.specs.Log.RefusalLine.{Told, Untold}
@@ -43,6 +44,11 @@ reached moment place part = behind moment (changed place part.changes) part.item
 -- how many calls of the host bring these items and make these changes: one for each item, and four for each change
 abbrev pub calls_for : List Item → List Change → ℕ
 calls_for items changes = length items + 4 * length changes
+
+-- the first of these items stands at the moment
+abbrev pub BeginsAt : ℕ → List Item → Type 0
+BeginsAt moment [] = ⊥
+BeginsAt moment (start ∷ items) = start.moments ≡ moment
 
 -- Such a part of a turn was served from the place. No call of the disk failed.
 pub record Serves (conf : Conf) (moment : ℕ) (place : Place) (part : Part) (old new : Scene) : Type 0 where
@@ -97,6 +103,8 @@ pub record WantsMemory (policy : Policy) (place : Place) (turn : FeedTurn) (old 
   -- no datagram without a right HMAC lets it be wanting
   pub code : BringsRightCode policy taken.turn ⊎ WantsAtClose (rules_by policy) place taken
   pub settled : map Done (dones taken.changes) ≡ settlements place.past taken.items
+  -- the turn began with the next call of the host
+  pub begun : IfTold old.host.told new.host.told (λ before later. BeginsAt (before.moments + 1) taken.items)
   pub asked : ((opens taken.changes ≡ []) × MakesCalls (calls_for taken.items taken.changes) old.host new.host)
       ⊎ MakesCalls (calls_for taken.items taken.changes + 1) old.host new.host
   -- the host still numbers its children by rising numbers
