@@ -110,6 +110,7 @@ module _ (policy : Policy) (turns : List TakenTurn) (start : Standing) (old : Se
       → Stopped policy how start now
   stopped-by how reading cause most = record {
     turns = turns;
+    count = going.served.count;
     trial = is-trial policy turns old (ending_of how (length turns + 1)) (printing old sink) going.served;
     reading = reading;
     cause = cause;
@@ -157,6 +158,7 @@ module _ (policy : Policy) (turns : List TakenTurn) (start : Standing) (old : Se
       → StopsServing (record old { reader = reader }) new sink sink2 → Stopped policy stop.NoMemory start (record { session = new; streams = record { input = input2; output = sink2 } })
   stopped-memory new sink2 takes same stops = record {
     turns = turns;
+    count = stops.turns ∙ going.served.count;
     trial = is-trial policy turns old (ending_of stop.NoMemory (length turns + 1)) (printing old sink) going.served;
     reading = wants-for-line start.streams.input.left (rest reader input2.left) reader given stops.turn
         (HasRead-line IsTurnLine start.streams.input.left (rest old.reader input.left) (rest reader input2.left) old.reader reader given stops.turn going.read takes stops.is_line);

@@ -145,9 +145,10 @@ abbrev pub MaySumUp : Stop → Type 0 → Type 0
 MaySumUp stop.NoMemory sums = Unit {0}
 MaySumUp _ sums = sums
 
--- a session serves no further line
+-- a session serves no further line, and has counted each turn that it served
 pub record Stopped (policy : Policy) (how : Stop) (old now : Standing) : Type 0 where
   pub turns : List TakenTurn
+  pub count : now.session.turns ≡ length turns
   pub trial : IsTrial policy (run_of policy (ending_of how (length turns + 1)) turns)
   pub reading : StopsAt how (length turns + 1) old.streams.input.left now.streams.input.left (map (λ taken. taken.turn) turns)
   pub cause : HasInputCause how old.streams.input.faults now.streams.input.faults
