@@ -1,5 +1,5 @@
 -- A trial, whole with its first and its last line.
-use Rattle.std.proofs.Common.{◌≡◌, ◌⊎◌, ℕ, ◌+◌, ◌&&◌, not, Bool, true, false, List, [], ◌∷◌, ◌++◌, length, Option, Some, None, refl, sym, ap, ◌∙◌, subst, inl, inr, arith}
+use Rattle.std.proofs.Common.{◌≡◌, ◌⊎◌, ℕ, ◌+◌, ◌&&◌, not, Bool, true, false, List, [], ◌∷◌, ◌++◌, length, refl, sym, ap, ◌∙◌, subst, inl, inr, arith}
 use Rattle.fk_base.specs.declared.status.Status.{Status}
 use Rattle.fk_base.specs.declared.status.Status.TheVariants as status
 use Rattle.fk_trace.specs.Ledger.{live}
@@ -9,7 +9,6 @@ use Rattle.fk_run.specs.Run.{Run, Ending}
 use Rattle.fk_run.specs.Run.Ending.{AtWantOfMemory}
 use Rattle.fk_host.specs.Count.{counted}
 use Rattle.fk_host.proofs.Streams.{Gives-nil}
-use Rattle.fk_input.specs.Lines.{pieces, end}
 use Rattle.fk_log.specs.declared.tally.Tally.{Tally}
 use Rattle.fk_log.specs.declared.verbosity.Verbosity.{Verbosity}
 use Rattle.fk_log.specs.Line.{Line}
@@ -30,9 +29,10 @@ use Rattle.fk_trial.specs.declared.session.Stop.{Stop}
 use Rattle.fk_trial.specs.declared.session.Stop.TheVariants as stop
 use Rattle.fk_trial.specs.declared.task.TrialTask.{TrialTask}
 use Rattle.fk_trial.specs.Streams.{SourceView, Streams}
-use Rattle.fk_trial.specs.Trial.{HasTurns, HasStatus, Tries}
+use Rattle.fk_trial.specs.Trial.{HasStatus, Tries}
 use Rattle.fk_trial.specs.Sessions.{Standing, Begins, HoldsPages, MayEnd, MaySumUp, SaysLast, SumsUp, Stopped, HasInputCause, EndsSo, ending_of, run_of, last_lines, summary_by, printing}
 use Rattle.fk_trial.proofs.Behind.{changes_in}
+use Rattle.fk_trial.proofs.Reading.{has-turns}
 use Rattle.fk_trial.proofs.Serving.{other-outputs}
 
 -- what a session that may write has said
@@ -238,7 +238,7 @@ module _ (task : TrialTask) (input input2 : SourceView) (sink sink1 sink2 sink3 
   tried = record {
     run = run_of task.policy ending turns;
     trial = stopped.trial;
-    reading = stopped.reading;
+    reading = has-turns how (length turns + 1) input.left input2.left _ stopped.reading;
     is_broken = ends.is_broken;
     printed = printed;
     answered = same-status how (session.turns + 1) (length turns + 1) ends.is_broken answer ends.answered;
@@ -248,10 +248,6 @@ module _ (task : TrialTask) (input input2 : SourceView) (sink sink1 sink2 sink3 
   tried-counts =
       stop-counts how (session.turns + 1) ends.is_broken (log_text v Opened Told (run_of task.policy ending turns)) answer
       (record { input = input; output = sink }) (record { input = input2; output = sink3 }) ends.answered stopped.cause printed
-
-front-none : (left : Option (List ℕ)) → HasTurns AtWantOfMemory left left []
-front-none None = tt
-front-none (Some text) = ([], pieces text, refl, end)
 
 -- memory was wanting before the first line
 pub tried-none : (task : TrialTask) (input : SourceView) (sink sink1 : SinkView) (log : LogState)
@@ -267,7 +263,7 @@ tried-none task input sink sink1 log ready = record {
     uncut = tt;
     trace = record { well = tt; numbers = refl };
   };
-  reading = front-none input.left;
+  reading = inl (refl, refl);
   is_broken = log.is_broken;
   printed = prints log.is_broken (shown_text task.verbosity ready_line) (output (blank task) sink.written sink.faults) (output log sink1.written sink1.faults) ready.written;
   answered = refl;

@@ -44,6 +44,8 @@ pub printed-line : (law : Law) (policy : Policy) (turn : FeedTurn) (place : Plac
 printed-line law policy turn place None old mid new blank page before after is serves blank_is told replay mid_is prints =
     (turn, is, served law policy turn place old mid new blank page before after serves blank_is told replay mid_is prints)
 printed-line law policy turn place (Some stop.NoMemory) old mid new blank page before after is serves blank_is told replay mid_is prints = record {
+  turn = turn;
+  is_line = is;
   parks = subst (λ (session : Session). OwesItsLive session.daemon) (sym prints.0) (rests-parks policy.conf.now _ _ serves.rests);
   broken = ap (λ (session : Session). session.is_broken) prints.0 ∙ ap (λ (session : Session). session.is_broken) mid_is;
   verbosity = ap (λ (session : Session). session.log.verbosity) prints.0 ∙ serves.logs.kept;
@@ -58,12 +60,15 @@ printed-line law policy turn place (Some stop.ReadFault) old mid new blank page 
 
 -- a turn that was cut, or whose host became short
 pub unprinted-line : {T : Type 0} (policy : Policy) (turn : FeedTurn) (place : Place) (result : Result T TurnErr) (old mid : Session) (blank page : Stock) (sink : SinkView)
+    → IsTurnLine old.reader.line turn
     → ServesOver policy place turn (scene old.daemon (view old.host) (output old.log (Some blank.written) blank.faults)) (scene mid.daemon (view mid.host) (output mid.log (Some page.written) page.faults)) result
     → IsServed old mid → StopsServing old mid sink sink
-unprinted-line policy turn place result old mid blank page sink serves mid_is =
+unprinted-line policy turn place result old mid blank page sink is serves mid_is =
     let left = left_by policy place turn (scene old.daemon (view old.host) (output old.log (Some blank.written) blank.faults))
     (scene mid.daemon (view mid.host) (output mid.log (Some page.written) page.faults)) result serves in
     record {
+      turn = turn;
+      is_line = is;
       parks = left.0;
       broken = ap (λ (session : Session). session.is_broken) mid_is;
       verbosity = left.1;

@@ -1,5 +1,5 @@
 -- What the lines that were read say of the whole input.
-use Rattle.std.proofs.Common.{◌≡◌, ℕ, ◌+◌, ◌<◌, List, [], ◌∷◌, ◌++◌, length, Option, Some, None, ⊎_elim, sym, ap, ◌∙◌, append-nil, append_assoc, length-append, zero-le, refl, arith}
+use Rattle.std.proofs.Common.{◌≡◌, ℕ, ◌+◌, ◌<◌, List, [], ◌∷◌, ◌++◌, length, Option, Some, None, ⊎_elim, sym, ap, ◌∙◌, append-nil, append_assoc, length-append, zero-le, refl, inr, arith}
 use Rattle.std.specs.List.{concat}
 use Rattle.std.proofs.lemmas.List.{append_cancel_left}
 use Rattle.std.proofs.lemmas.Bool.{cases_Bool}
@@ -10,10 +10,13 @@ use Rattle.fk_input.specs.Reading.{Reading, IsBounded, rest, TakesLine, FindsEnd
 use Rattle.fk_input.specs.Progress.{HasRead}
 use Rattle.fk_input.proofs.Progress.{Reads-end}
 use Rattle.fk_trace.specs.Decision.{FeedTurn}
-use Rattle.fk_run.specs.Run.Ending.{AtEnd, AtWantOfMemory}
+use Rattle.fk_run.specs.Run.Ending.{AtEnd}
+use Rattle.fk_trial.specs.declared.session.Stop.{Stop}
+use Rattle.fk_trial.specs.declared.session.Stop.TheVariants as stop
 use Rattle.fk_trial.specs.Lines.{IsTurnLine}
 use Rattle.fk_trial.specs.Streams.{TakesAtMost}
-use Rattle.fk_trial.specs.Trial.{HasTurns}
+use Rattle.fk_trial.specs.Trial.{HasTurns, WantsForLine}
+use Rattle.fk_trial.specs.Sessions.{StopsAt, ending_of}
 
 -- a piece takes at least one byte
 some-byte : (piece : List ℕ) → IsPiece piece → 0 < length piece
@@ -32,12 +35,22 @@ pieces-so_far text (Some left) reader turns h =
     (λ e. (pieces left, ap pieces h.taken ∙ h.apart e left))
     (cases_Bool reader.ended)
 
--- the turns so far are the first lines of the input
-pub front-so_far : (start now after : Option (List ℕ)) (reader : Reading) (turns : List FeedTurn) → HasRead IsTurnLine start now reader turns → HasTurns AtWantOfMemory start after turns
-front-so_far None now after reader turns h = tt
-front-so_far (Some text) now after reader turns h =
-    let at = pieces-so_far text now reader turns h in
-    (h.used, at.0, at.1, h.reads)
+-- the turns so far are the first lines of the input, and memory was wanting for the last one
+pub wants-for-line : (start now : Option (List ℕ)) (reader : Reading) (turns : List FeedTurn) (wanting : FeedTurn)
+    → HasRead IsTurnLine start now reader (turns ++ wanting ∷ []) → WantsForLine start turns
+wants-for-line None now reader turns wanting h = tt
+wants-for-line (Some text) now reader turns wanting h =
+    let at = pieces-so_far text now reader (turns ++ wanting ∷ []) h in
+    (wanting, h.used, at.0, at.1, h.reads)
+
+-- what a stop says of the input, the run that ended so says too
+pub has-turns : (how : Stop) (line : ℕ) (before after : Option (List ℕ)) (turns : List FeedTurn) → StopsAt how line before after turns
+    → HasTurns (ending_of how line) before after turns
+has-turns stop.End line before after turns stops = stops
+has-turns stop.BadLine line before after turns stops = stops
+has-turns stop.LongInput line before after turns stops = stops
+has-turns stop.ReadFault line before after turns stops = stops
+has-turns stop.NoMemory line before after turns stops = inr stops
 
 left-none : (text : List ℕ) (before left : Option (List ℕ)) (old new : Reading) (turns : List FeedTurn)
     → HasRead IsTurnLine (Some text) before old turns → FindsEnd old new before (rest new left) → left ≡ Some []

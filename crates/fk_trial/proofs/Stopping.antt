@@ -14,7 +14,7 @@ use Rattle.fk_host.specs.Count.{counted}
 use Rattle.fk_host.specs.Stream.{Takes}
 use Rattle.fk_input.specs.Lines.{input_limit}
 use Rattle.fk_input.specs.Reading.{Reading, IsBounded, rest, TakesLine, FindsEnd, TakesLongLine, PassesLimit, BreaksOff}
-use Rattle.fk_input.proofs.Progress.{Reads-bad_line, Reads-long_line, Reads-limit, Reads-broken}
+use Rattle.fk_input.proofs.Progress.{HasRead-line, Reads-bad_line, Reads-long_line, Reads-limit, Reads-broken}
 use Rattle.fk_log.specs.Log.{lines_of_turns}
 use Rattle.fk_log.specs.Log.RefusalLine.{Told}
 use Rattle.fk_log.specs.Printing.{SinkView}
@@ -33,9 +33,9 @@ use Rattle.fk_trial.specs.Lines.{IsTurnLine}
 use Rattle.fk_trial.specs.Streams.{SourceView, TakesAtMost}
 use Rattle.fk_trial.specs.Trace.{IsTrialTrace}
 use Rattle.fk_trial.specs.Trial.{IsTrial, HasTurns}
-use Rattle.fk_trial.specs.Sessions.{Standing, Served, Going, HasInputCause, MaySumUp, SumsUp, Stopped, StopsServing, ending_of, run_of, printing, printing_of}
+use Rattle.fk_trial.specs.Sessions.{Standing, Served, Going, HasInputCause, MaySumUp, SumsUp, Stopped, StopsAt, StopsServing, ending_of, run_of, printing, printing_of}
 use Rattle.fk_trial.proofs.Behind.{ledger-behind, legal-whole}
-use Rattle.fk_trial.proofs.Reading.{turns-end, front-so_far, takes-bounded}
+use Rattle.fk_trial.proofs.Reading.{turns-end, wants-for-line, takes-bounded}
 use Rattle.fk_trial.proofs.Serving.{rests-parks, other-outputs}
 
 -- no two children of these items have one number, and later ones have greater ones
@@ -105,11 +105,12 @@ module _ (policy : Policy) (turns : List TakenTurn) (start : Standing) (old : Se
       some stop.ReadFault sums = sums
       some stop.NoMemory sums = tt
 
-  stopped-by : (how : Stop) → HasTurns (ending_of how (length turns + 1)) start.streams.input.left input2.left given
+  stopped-by : (how : Stop) → StopsAt how (length turns + 1) start.streams.input.left input2.left given
       → HasInputCause how start.streams.input.faults input2.faults → TakesAtMost (input_limit + 1) start.streams.input.left input2.left
       → Stopped policy how start now
   stopped-by how reading cause most = record {
     turns = turns;
+    count = going.served.count;
     trial = is-trial policy turns old (ending_of how (length turns + 1)) (printing old sink) going.served;
     reading = reading;
     cause = cause;
@@ -151,14 +152,16 @@ module _ (policy : Policy) (turns : List TakenTurn) (start : Standing) (old : Se
   pub stopped-failed : BreaksOff old.reader reader (rest old.reader input.left) (rest reader input2.left) → input2.faults ≡ counted input.faults → Stopped policy stop.ReadFault start now
   stopped-failed breaks cause =
       let taken = Reads-broken IsTurnLine start.streams.input.left (rest old.reader input.left) input2.left old.reader reader given going.read breaks in
-      stopped-by stop.ReadFault (taken.0, taken.1, taken.2) (cause ∙ ap counted going.input) (most-taken breaks.front breaks.taken breaks.offset)
+      stopped-by stop.ReadFault (taken.0, taken.1, taken.2, record { lines = taken.3; whole = taken.4 }) (cause ∙ ap counted going.input) (most-taken breaks.front breaks.taken breaks.offset)
 
   pub stopped-memory : (new : Session) (sink2 : SinkView) → TakesLine old.reader reader (rest old.reader input.left) (rest reader input2.left) → input2.faults ≡ input.faults
       → StopsServing (record old { reader = reader }) new sink sink2 → Stopped policy stop.NoMemory start (record { session = new; streams = record { input = input2; output = sink2 } })
   stopped-memory new sink2 takes same stops = record {
     turns = turns;
+    count = stops.turns ∙ going.served.count;
     trial = is-trial policy turns old (ending_of stop.NoMemory (length turns + 1)) (printing old sink) going.served;
-    reading = front-so_far start.streams.input.left (rest old.reader input.left) input2.left old.reader given going.read;
+    reading = wants-for-line start.streams.input.left (rest reader input2.left) reader given stops.turn
+        (HasRead-line IsTurnLine start.streams.input.left (rest old.reader input.left) (rest reader input2.left) old.reader reader given stops.turn going.read takes stops.is_line);
     cause = same ∙ going.input;
     bounded = most-taken takes.piece takes.taken takes.offset;
     verbosity = stops.verbosity ∙ going.logs.kept;

@@ -1,13 +1,13 @@
 -- The lines of a trial's input: `MOMENT` alone, or `MOMENT SOURCE DATAGRAM` with single spaces.
 use Rattle.std.specs.Prelude.{◌≡◌, ℕ, ◌<◌, ◌≤◌, ◌^◌, ◌&&◌, nat_le, Bool, IsTrue, List, ◌∷◌, ◌++◌, length, Option}
-use Rattle.std.specs.List.{list_all}
+use Rattle.std.specs.List.{list_all, AllByRecursion}
 use Rattle.std.specs.Fmt.{decimal}
 use Rattle.fk_base.specs.Address.{ip_text}
 use Rattle.fk_base.specs.declared.moment.TheConstants.{GREATEST_MOMENT}
 use Rattle.fk_trace.specs.Decision.{Input, FeedTurn}
 use Rattle.fk_trace.specs.Decision.Input.{Quiet, Datagram}
 use Rattle.fk_input.specs.declared.fault.Fault.{Fault}
-use Rattle.fk_input.specs.Lines.{Reads}
+use Rattle.fk_input.specs.Lines.{pieces, content, line_limit, input_limit, Reads}
 
 -- a byte that is seen: from 0x21 to 0x7e
 abbrev pub is_visible : ℕ → Bool
@@ -31,3 +31,9 @@ IsTurnLine line turn = (turn.moment ≤ GREATEST_MOMENT) × IsLineAt line turn.m
 -- what lines say: the turns, and the first fault
 abbrev pub ReadsTurns : List (List ℕ) → List FeedTurn → Option Fault → Type 0
 ReadsTurns lines turns fault = Reads IsTurnLine 0 1 lines turns fault
+
+-- no byte of these shows that a limit is passed: no line of them is too long, the unfinished last one neither, and together they are
+-- no input that is too long
+pub record AreWithinLimits (bytes : List ℕ) : Type 0 where
+  pub lines : AllByRecursion (λ piece. length (content piece) ≤ line_limit) (pieces bytes)
+  pub whole : length bytes ≤ input_limit

@@ -37,7 +37,7 @@ use Rattle.fk_trial.specs.declared.session.Stop.TheVariants as stop
 use Rattle.fk_trial.specs.Lines.{IsTurnLine}
 use Rattle.fk_trial.specs.Streams.{Streams, TakesAtMost, streams_by}
 use Rattle.fk_trial.specs.Trace.{IsTrialTrace}
-use Rattle.fk_trial.specs.Trial.{IsTrial, HasTurns, HasStatus}
+use Rattle.fk_trial.specs.Trial.{IsTrial, WantsForLine, HasTurns, HasStatus}
 use Rattle.fk_trial.specs.Replay.{IsReplay}
 
 -- a session with its input and its output
@@ -120,6 +120,11 @@ ending_of stop.LongInput line = AtLongInput line
 ending_of stop.ReadFault line = AtReadFault
 ending_of stop.NoMemory line = AtWantOfMemory
 
+-- what the input has and has left at a stop in this line: behind the beginning memory is wanted only for a line that is a turn
+abbrev pub StopsAt : Stop → ℕ → Option (List ℕ) → Option (List ℕ) → List FeedTurn → Type 0
+StopsAt stop.NoMemory line before after turns = WantsForLine before turns
+StopsAt how line before after turns = HasTurns (ending_of how line) before after turns
+
 -- the input failed, once, where it is said to, and else not
 abbrev pub HasInputCause : Stop → ℕ → ℕ → Type 0
 HasInputCause stop.ReadFault old new = new ≡ counted old
@@ -140,11 +145,12 @@ abbrev pub MaySumUp : Stop → Type 0 → Type 0
 MaySumUp stop.NoMemory sums = Unit {0}
 MaySumUp _ sums = sums
 
--- a session serves no further line
+-- a session serves no further line, and has counted each turn that it served
 pub record Stopped (policy : Policy) (how : Stop) (old now : Standing) : Type 0 where
   pub turns : List TakenTurn
+  pub count : now.session.turns ≡ length turns
   pub trial : IsTrial policy (run_of policy (ending_of how (length turns + 1)) turns)
-  pub reading : HasTurns (ending_of how (length turns + 1)) old.streams.input.left now.streams.input.left (map (λ taken. taken.turn) turns)
+  pub reading : StopsAt how (length turns + 1) old.streams.input.left now.streams.input.left (map (λ taken. taken.turn) turns)
   pub cause : HasInputCause how old.streams.input.faults now.streams.input.faults
   pub bounded : TakesAtMost (input_limit + 1) old.streams.input.left now.streams.input.left
   pub verbosity : now.session.log.verbosity ≡ old.session.log.verbosity
@@ -182,8 +188,10 @@ pub record ServesTurn (policy : Policy) (turn : FeedTurn) (place : Place) (old n
   pub count : new.turns ≡ old.turns + 1
   pub reader : new.reader ≡ old.reader
 
--- nothing was printed, and the daemon can be parked
+-- the line that was read last is a turn, of which nothing was printed, and the daemon can be parked
 pub record StopsServing (old new : Session) (before after : SinkView) : Type 0 where
+  pub turn : FeedTurn
+  pub is_line : IsTurnLine old.reader.line turn
   pub parks : OwesItsLive new.daemon
   pub broken : new.is_broken ≡ old.is_broken
   pub verbosity : new.log.verbosity ≡ old.log.verbosity

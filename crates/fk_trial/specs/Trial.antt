@@ -1,6 +1,6 @@
 -- What a trial does, whole: one legal run of the daemon's rules over an empty ledger, whose turns are the input's lines and whose
 -- log is printed.
-use Rattle.std.specs.Prelude.{◌≡◌, ℕ, Bool, true, false, List, [], ◌++◌, filter, Option, Some, None, IfSome}
+use Rattle.std.specs.Prelude.{◌≡◌, ◌⊎◌, ℕ, Bool, true, false, List, [], ◌∷◌, ◌++◌, filter, Option, Some, None, IfSome}
 use Rattle.fk_base.specs.declared.status.Status.{Status}
 use Rattle.fk_base.specs.declared.status.Status.TheVariants as status
 use Rattle.fk_trace.specs.Decision.{FeedTurn}
@@ -19,7 +19,7 @@ use Rattle.fk_log.specs.Printing.{Prints}
 use Rattle.fk_turn.specs.declared.policy.Policy.{Policy}
 use Rattle.fk_turn.specs.Rules.{rules_by}
 use Rattle.fk_trial.specs.declared.task.TrialTask.{TrialTask}
-use Rattle.fk_trial.specs.Lines.{ReadsTurns}
+use Rattle.fk_trial.specs.Lines.{ReadsTurns, AreWithinLimits}
 use Rattle.fk_trial.specs.Streams.{Streams}
 use Rattle.fk_trial.specs.Trace.{IsTrialTrace}
 
@@ -32,6 +32,11 @@ pub record IsTrial (policy : Policy) (run : Run) : Type 0 where
   pub uncut : LegalTurns run.rules (entry run.ledger) AtEnd run.turns
   pub trace : IsTrialTrace (trace_of run)
 
+-- memory was wanting for a line that is a turn: the first lines of the input are those of these turns, and then that one
+abbrev pub WantsForLine : Option (List ℕ) → List FeedTurn → Type 0
+WantsForLine before turns = IfSome before (λ text.
+    (wanting : FeedTurn) × (lines others : List (List ℕ)) × (pieces text ≡ lines ++ others) × ReadsTurns lines (turns ++ wanting ∷ []) None)
+
 -- The turns of a run that ended so, by what the input had and has left, where it tells.
 abbrev pub HasTurns : Ending → Option (List ℕ) → Option (List ℕ) → List FeedTurn → Type 0
 -- the input was read to its end, and each line is a turn
@@ -39,11 +44,11 @@ HasTurns AtEnd before after turns = IfSome before (λ text. ReadsTurns (pieces t
 -- the first line that is none, or in which the limit is passed, is at fault
 HasTurns (AtBadLine line) before after turns = IfSome before (λ text. ReadsTurns (pieces text) turns (Some (record { line = line; what = BadLine })))
 HasTurns (AtLongInput line) before after turns = IfSome before (λ text. ReadsTurns (pieces text) turns (Some (record { line = line; what = TooLong })))
--- of what was taken exactly the lines are turns whose line feed was read
-HasTurns AtReadFault before after turns = (taken : List ℕ) × Takes taken before after × ReadsTurns (filter is_fed (pieces taken)) turns None
--- the turns are the first lines of the input
-HasTurns AtWantOfMemory before after turns =
-    IfSome before (λ text. (lines : List (List ℕ)) × (others : List (List ℕ)) × (pieces text ≡ lines ++ others) × ReadsTurns lines turns None)
+-- of what was taken exactly the lines are turns whose line feed was read, and no byte of it broke a rule before
+HasTurns AtReadFault before after turns =
+    (taken : List ℕ) × Takes taken before after × ReadsTurns (filter is_fed (pieces taken)) turns None × AreWithinLimits taken
+-- before anything was read, or for the line behind these turns, which is a turn too
+HasTurns AtWantOfMemory before after turns = ((turns ≡ []) × (after ≡ before)) ⊎ WantsForLine before turns
 HasTurns _ before after turns = ⊥
 
 -- the input alone decided the ending: it was read as far as it has lines, or up to its first fault

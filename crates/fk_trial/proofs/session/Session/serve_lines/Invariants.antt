@@ -1,8 +1,6 @@
 use Rattle.std.proofs.Common.{◌+◌, ◌-◌, List}
 use Rattle.fk_run.specs.Turn.{TakenTurn}
 use Rattle.fk_input.specs.Lines.{input_limit}
-use Rattle.fk_log.specs.Printing.{sink_by}
-use Rattle.fk_trial.specs.Streams.{source_by, streams_by}
 use Rattle.fk_trial.specs.Sessions.{Going, Standing, standing_by}
 use Rattle.fk_trial.proofs.session.Session.serve_lines.Given as goal
 
