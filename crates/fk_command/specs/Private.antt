@@ -19,7 +19,7 @@ use Rattle.fk_log.specs.Printing.{SinkView, sink_by}
 use Rattle.fk_daemon.specs.Outside.{FeedView, Outside}
 use Rattle.fk_command.specs.declared.files.FileNames.{FileNames}
 use Rattle.fk_trial.specs.declared.task.TrialTask.{TrialTask}
-use Rattle.fk_trial.specs.Streams.{SourceView, Streams, source_by, streams_by}
+use Rattle.fk_trial.specs.Streams.{SourceView, Streams, streams_by}
 use Rattle.fk_trial.specs.Trial.{Tries}
 use Rattle.fk_program.specs.Faults.{Fault, Tells}
 use Rattle.fk_program.specs.Files.{FilesView, files_by}

@@ -6,9 +6,8 @@ use Rattle.fk_host.specs.declared.files.Files.{Ghosts as FilesMeaning}
 use Rattle.fk_host.specs.declared.stream.Sink.{Ghosts as SinkMeaning}
 use Rattle.fk_host.specs.declared.stream.Source.{Ghosts as SourceMeaning}
 use Rattle.fk_host.specs.Disk.{Areas}
-use Rattle.fk_log.specs.Printing.{sink_by}
-use Rattle.fk_child.specs.View.{View, view_of}
-use Rattle.fk_daemon.specs.Outside.{Outside, feed_by, outside_by}
+use Rattle.fk_child.specs.View.{View}
+use Rattle.fk_daemon.specs.Outside.{Outside, outside_by}
 use Rattle.fk_program.specs.Files.{FilesView, files_by}
 use Rattle.fk_trial.specs.Streams.{SourceView, Streams, source_by}
 

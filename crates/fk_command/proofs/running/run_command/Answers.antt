@@ -1,5 +1,4 @@
 use Rattle.std.proofs.Common.{refl, sym, subst}
-use Rattle.fk_log.specs.Printing.{sink_by}
 use Rattle.fk_child.specs.View.{view_of}
 use Rattle.fk_conf.specs.declared.command.Command.{Command}
 use Rattle.fk_conf.specs.DaemonCommands.{IsForDaemon}

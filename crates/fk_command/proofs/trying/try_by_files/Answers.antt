@@ -3,7 +3,7 @@ use Rattle.fk_base.specs.declared.status.Status.{Status}
 use Rattle.fk_base.specs.declared.status.Status.TheVariants as status
 use Rattle.fk_log.specs.Causes.{FailsOnlyAs}
 use Rattle.fk_log.specs.Printing.{sink_by}
-use Rattle.fk_trial.specs.Streams.{source_by, streams_by}
+use Rattle.fk_trial.specs.Streams.{streams_by}
 use Rattle.fk_command.specs.Private.{names_of}
 use Rattle.fk_program.specs.Faults.{fault_of}
 use Rattle.fk_program.specs.Files.{FilesView, files_by}
