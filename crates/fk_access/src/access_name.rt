@@ -12,7 +12,9 @@ use crate::sources::are_sources;
 use fk_base::{GREATEST_MOMENT, LONGEST_TIME};
 use fk_lines::Line;
 use fk_subst::is_template;
-use fk_values::{Given, MOST_SETTINGS, is_base64_key, is_key, read_flag, read_hash_name, read_number};
+use fk_values::{
+    Given, MOST_SETTINGS, is_base64_key, is_key, read_flag, read_hash_name, read_number,
+};
 
 /// A name of an access file.
 #[derive(Clone, Copy)]
