@@ -15,7 +15,9 @@ use Rattle.fk_host.specs.Host.{Brings, items_of}
 use Rattle.fk_ledger.specs.Holds.{HoldsState, KeepsLedger}
 use Rattle.fk_ledger.specs.Stretch.{Stretch}
 use Rattle.fk_ledger.proofs.StretchLaws.{left_stretch, left_keeps, image_holds}
-use Rattle.fk_child.specs.View.{View, MakesCalls, AddsItems, HoldsFront, Moments, made_of, Adds}
+use Rattle.fk_journal.specs.Keeps.{LeavesOthers}
+use Rattle.fk_child.specs.View.{View, MakesCalls, SparesOthers, AddsItems, HoldsFront, Moments, made_of, Adds}
+use Rattle.fk_child.proofs.Others.{others-left, others-told}
 use Rattle.fk_child.proofs.Counts.{pairs-cons}
 use Rattle.fk_child.proofs.Pieces.{pairs-head, pairs-tail, recursion-weaker}
 
@@ -137,6 +139,9 @@ pub quiet-told : (items : List Item) (ledger : List Change) (images images' : �
 quiet-told items ledger images images' old new stretch =
     if_told_map old new (Stretch ledger [] true images images') (Moments (HoldsFront items ledger []) 0 images images') (λ x y s. quiet-moments items ledger images images' x y s) stretch
 
+spares : (images images' : ℕ → Areas → Type 0) (old new : Option Told) → IfTold old new (LeavesAreas images images') → IfTold old new (LeavesOthers images images')
+spares images images' old new left = if_told_map old new (LeavesAreas images images') (LeavesOthers images images') (others-left images images') left
+
 -- a call above the disk adds what it brought
 pub adds-brought : (event : Option Event) (ledger : List Change) (old new : View) → IfTold old.told new.told (Brings event new.faults old.images new.images)
     → new.faults ≡ old.faults → KeepsLedger ledger old.told old.images → Adds (brought event new) ledger [] true old new
@@ -145,6 +150,7 @@ adds-brought event ledger old new call disk keeps = record {
   moments = quiet-told (brought event new) ledger old.images new.images old.told new.told
       (left_stretch old.told new.told ledger old.images new.images keeps (told-leaves event new.faults old.images new.images old.told new.told call));
   faults = same-faults event (moment_of new.told) new.faults old.faults disk;
+  others = spares old.images new.images old.told new.told (told-leaves event new.faults old.images new.images old.told new.told call);
 }
 
 -- no call adds nothing
@@ -172,6 +178,7 @@ adds-none ledger view keeps = record {
   moments = quiet-told [] ledger view.images view.images view.told view.told
       (left_stretch view.told view.told ledger view.images view.images keeps (none-leaves view.images view.told));
   faults = tt;
+  others = spares view.images view.images view.told view.told (none-leaves view.images view.told);
 }
 
 -- ---- a call that changes the ledger
@@ -218,11 +225,12 @@ change-told ledger change whole images images' (Some x) (Some y) keeps stretch =
 
 pub adds-change : (ledger : List Change) (change : Change) (whole : Bool) (old new : View) → KeepsLedger ledger old.told old.images
     → IfTold old.told new.told (λ before later. later.trace ≡ before.trace)
-    → IfTold old.told new.told (Stretch ledger (change ∷ []) whole old.images new.images) → Adds [] ledger (change ∷ []) whole old new
-adds-change ledger change whole old new keeps trace stretch = record {
+    → IfTold old.told new.told (Stretch ledger (change ∷ []) whole old.images new.images) → SparesOthers old new → Adds [] ledger (change ∷ []) whole old new
+adds-change ledger change whole old new keeps trace stretch others = record {
   trace = no-items old.told new.told trace;
   moments = change-told ledger change whole old.images new.images old.told new.told keeps stretch;
   faults = tt;
+  others = others;
 }
 
 -- ---- calls that adjoin
@@ -310,4 +318,6 @@ module _ (xs ys : List Item) (ledger a b : List Change) (order : MayStandBefore 
         moments = both.1;
         faults = recursion-joined (λ (item : Item). item.faults ≡ first.faults) xs ys s.faults
             (recursion-weaker (λ (item : Item). item.faults ≡ second.faults) (λ item. item.faults ≡ first.faults) (λ item e. e ∙ disk) ys t.faults);
+        others = others-told (HoldsFront xs ledger a) (HoldsFront ys (ledger ++ a) b) (length a) (made_of whole b) first.images second.images third.images first.told second.told third.told
+            s.moments t.moments s.others t.others;
       }

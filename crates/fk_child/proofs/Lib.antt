@@ -1,4 +1,5 @@
 pub mod Pieces
+pub mod Others
 pub mod Images
 pub mod Ties
 pub mod Counts

@@ -17,7 +17,7 @@ use Rattle.fk_host.specs.Count.{counted}
 use Rattle.fk_ledger.specs.Book.{Book, live_ids}
 use Rattle.fk_ledger.specs.Holds.{KeepsLedger}
 use Rattle.fk_ledger.specs.Stretch.{Stretch}
-use Rattle.fk_child.specs.View.{View, MakesCalls, Adds}
+use Rattle.fk_child.specs.View.{View, MakesCalls, Adds, SparesOthers}
 use Rattle.fk_child.specs.Crew.{CrewState, IsTied, StandsAt, obligation_of, obligations_but}
 use Rattle.fk_child.specs.Calls.{SettlesFirst, FailsToSettle}
 use Rattle.fk_child.proofs.Pieces.{pairs-head, pairs-tail, remove-distinct}
@@ -80,13 +80,13 @@ module _ (crew : CrewState) (above : Above) (place : Place) (tied : IsTied crew 
       }
 
 module _ (crew crew' : CrewState) (old new : View) (place : Place) (book book' : Book) (id owed : ℕ) (e : place.ledger ≡ book.changes) (same : owed ≡ id)
-    (trace : IfTold old.told new.told (λ before later. later.trace ≡ before.trace)) where
+    (trace : IfTold old.told new.told (λ before later. later.trace ≡ before.trace)) (spares : SparesOthers old new) where
   adds-settled : (whole : Bool) → KeepsLedger place.ledger old.told old.images → IfTold old.told new.told (Stretch book.changes (Done owed ∷ []) whole old.images new.images)
       → Adds [] place.ledger (Done id ∷ []) whole old new
   adds-settled whole keeps stretch =
       subst (λ (n : ℕ). Adds [] place.ledger (Done n ∷ []) whole old new) same
       (adds-change place.ledger (Done owed) whole old new keeps trace
-      (subst (λ (l : List Change). IfTold old.told new.told (Stretch l (Done owed ∷ []) whole old.images new.images)) (sym e) stretch))
+      (subst (λ (l : List Change). IfTold old.told new.told (Stretch l (Done owed ∷ []) whole old.images new.images)) (sym e) stretch) spares)
 
   -- the first of the records is settled
   pub settles-first : (index : ℕ) (others : List ℕ) → StandsAt (with_host crew old) place → crew.unsettled ≡ id ∷ others → slice_get crew.owed index ≡ Some id

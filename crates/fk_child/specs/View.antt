@@ -6,6 +6,7 @@ use Rattle.fk_trace.specs.Trace.{Item}
 use Rattle.fk_host.specs.declared.disk.Disk.{Ghosts as DiskMeaning}
 use Rattle.fk_host.specs.Disk.{Areas, Told, Above, IfTold, KeepsPast}
 use Rattle.fk_run.specs.Left.{IsCutAt}
+use Rattle.fk_journal.specs.Keeps.{LeavesOthers}
 use Rattle.fk_ledger.specs.Holds.{HoldsState}
 
 -- what a host says of itself
@@ -26,6 +27,10 @@ view_of means host =
 -- so many calls of the host were made
 abbrev pub MakesCalls : ℕ → View → View → Type 0
 MakesCalls count old new = IfTold old.told new.told (λ before later. later.moments ≡ before.moments + count)
+
+-- the calls leave the areas on which the ledger does not stand, in what a read gives and in what a crash may leave
+abbrev pub SparesOthers : View → View → Type 0
+SparesOthers old new = IfTold old.told new.told (LeavesOthers old.images new.images)
 
 -- The items are the new end of the trace, and each of them stands at a new moment, later than those before it. So the items up to
 -- a moment are the first ones.
@@ -55,8 +60,10 @@ abbrev pub made_of : Bool → List Change → ℕ
 made_of whole changes = if whole then length changes else length changes - 1
 
 -- Calls were made in one turn that added these items to the trace, each with the disk's count of faults from before them, and these
--- changes to the ledger: all of them, unless one of the calls failed, which is then that of the last change.
+-- changes to the ledger: all of them, unless one of the calls failed, which is then that of the last change. The areas on which the
+-- ledger does not stand are left.
 pub record Adds (items : List Item) (ledger changes : List Change) (whole : Bool) (old new : View) : Type 0 where
   pub trace : IfTold old.told new.told (AddsItems items)
   pub moments : IfTold old.told new.told (Moments (HoldsFront items ledger changes) (made_of whole changes) old.images new.images)
   pub faults : AllByRecursion (λ item. item.faults ≡ old.faults) items
+  pub others : SparesOthers old new

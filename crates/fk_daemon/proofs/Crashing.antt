@@ -27,7 +27,9 @@ use Rattle.fk_journal.proofs.Told.{past_then, if_told_map}
 use Rattle.fk_ledger.specs.Holds.{HoldsState, KeepsLedger}
 use Rattle.fk_ledger.specs.Stretch.{IsLedgerOpening}
 use Rattle.fk_child.specs.View.{View, AddsItems, HoldsFront, Moments, made_of, Adds}
+use Rattle.fk_journal.specs.Keeps.{LeavesOthers}
 use Rattle.fk_child.proofs.Images.{items-then, adds-none}
+use Rattle.fk_child.proofs.Others.{others-told}
 use Rattle.fk_child.proofs.Pieces.{recursion-weaker}
 use Rattle.fk_daemon.specs.Moments.{HoldsRun, RunMoments}
 use Rattle.fk_daemon.specs.Sessions.{IsCrashed, HoldsCrash, AddsTurns, LeavesView}
@@ -261,7 +263,12 @@ module _ (rules : Rules) (ledger : List Change) (faults : ℕ) where
         → AddsTurns (run_at ending (turns ++ taken ∷ [])) (changes_in turns ++ tried) old new
     adds-turn old mid new so_far next l =
         let both = turns-told (length (changes_in (turns ++ taken ∷ []))) l old.images mid.images new.images old.told mid.told new.told so_far.trace next.trace so_far.moments next.moments in
-        record { trace = both.0; moments = both.1 }
+        record {
+          trace = both.0;
+          moments = both.1;
+          others = others-told (HoldsCrash (run_at AtLimit turns) (changes_in turns)) (HoldsFront taken.items (ledger ++ changes_in turns) tried) (length (changes_in turns)) (made_of whole tried)
+              old.images mid.images new.images old.told mid.told new.told so_far.moments next.moments so_far.others next.others;
+        }
 
   -- no turn was taken yet
   module _ (old new : ℕ → Areas → Type 0) (x y : Told) (quiet : Moments (HoldsFront [] ledger []) 0 old new x y) (ending : Ending) where
@@ -286,6 +293,7 @@ module _ (rules : Rules) (ledger : List Change) (faults : ℕ) where
       let none = adds-none ledger view keeps in
       record {
         trace = none.trace;
+        others = none.others;
         moments = if_told_map view.told view.told (Moments (HoldsFront [] ledger []) 0 view.images view.images) (Moments (HoldsCrash (run_at ending []) []) 0 view.images view.images)
             (λ x y quiet. quiet-crash view.images view.images x y quiet ending) none.moments;
       }
@@ -309,6 +317,7 @@ module _ (rules : Rules) (ledger : List Change) (faults : ℕ) where
   pub adds-ending : (ending other : Ending) (turns : List TakenTurn) (tried : List Change) (old new : View) → AddsTurns (run_at ending turns) tried old new → AddsTurns (run_at other turns) tried old new
   adds-ending ending other turns tried old new adds = record {
     trace = adds.trace;
+    others = adds.others;
     moments = if_told_map old.told new.told (Moments (HoldsCrash (run_at ending turns) tried) (length (changes_in turns)) old.images new.images)
         (Moments (HoldsCrash (run_at other turns) tried) (length (changes_in turns)) old.images new.images)
         (λ x y m. moments-ending ending other turns tried (length (changes_in turns)) old.images new.images x y m) adds.moments;
@@ -326,6 +335,9 @@ adds-left run tried old mid new adds left = record {
         each = λ k image behind upto now. m.each k image behind upto ((left.images k image).0 now);
         last = λ image now. m.last image ((left.images y.moments image).0 now);
       }) adds.moments);
+  others = subst (λ (told : Option Told). IfTold old.told told (LeavesOthers old.images new.images)) (sym left.told)
+      (if_told_map old.told mid.told (LeavesOthers old.images mid.images) (LeavesOthers old.images new.images)
+      (λ x y o. record { reads = o.reads; each = λ k image behind upto now. o.each k image behind upto ((left.images k image).0 now) }) adds.others);
 }
 
 -- ---- what follows of every legal run

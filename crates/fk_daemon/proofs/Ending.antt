@@ -19,7 +19,9 @@ use Rattle.fk_log.specs.Writing.{Output, Writes, Logs, output}
 use Rattle.fk_log.proofs.Logged.{Logs-append}
 use Rattle.fk_ledger.specs.Holds.{HoldsLedger}
 use Rattle.fk_ledger.specs.Stretch.{IsLedgerOpening}
-use Rattle.fk_child.specs.View.{View, AddsItems, Moments}
+use Rattle.fk_journal.specs.Keeps.{LeavesOthers}
+use Rattle.fk_child.specs.View.{View, SparesOthers, AddsItems, Moments}
+use Rattle.fk_child.proofs.Others.{others-then}
 use Rattle.fk_turn.specs.Daemon.{DaemonState}
 use Rattle.fk_daemon.specs.declared.task.Task.{Task}
 use Rattle.fk_daemon.specs.declared.session.Session.{Session}
@@ -31,7 +33,7 @@ use Rattle.fk_daemon.specs.Account.{tried_changes, is_whole}
 use Rattle.fk_daemon.specs.Moments.{RunMoments}
 use Rattle.fk_daemon.specs.Serving.{HasStatus, AsksHost, HasCauses, ServesRun, OpensInVain, OpensNoLedger, SaysWhyUnopened}
 use Rattle.fk_daemon.specs.Sessions.{HoldsCrash, Standing, Begins, OpensDaemon, HasOpeningCause, SaysFault, Finishes, SaysEnd, MaySumUp, new_log, ending_of, summary_by, output_of}
-use Rattle.fk_daemon.proofs.Telling.{told-join, told-both, items-behind, opened-then}
+use Rattle.fk_daemon.proofs.Telling.{told-join, told-both, items-behind, opening-later, opened-then}
 use Rattle.fk_daemon.proofs.Crashing.{SettlesCleanly, AttemptsOnce, moments-join}
 
 abbrev pub sink_of : Output → SinkView
@@ -105,6 +107,21 @@ module _ (task : Task) (old : Outside) (host : View) (daemon : DaemonState) (how
       (moments-join settles once run (tried_changes run_is.account) old.host.images host.images late.host.images)
       (subst (λ (ledger : List Change). IfTold old.host.told host.told (IsLedgerOpening ledger true old.host.images host.images)) (sym ledger_is) opens.moments) run-moments
 
+  opened-others : IfTold old.host.told host.told (λ x y. IsLedgerOpening daemon.book.changes true old.host.images host.images x y × LeavesOthers old.host.images host.images x y)
+  opened-others = told-both old.host.told host.told (IsLedgerOpening daemon.book.changes true old.host.images host.images) (LeavesOthers old.host.images host.images)
+      (λ x y. IsLedgerOpening daemon.book.changes true old.host.images host.images x y × LeavesOthers old.host.images host.images x y) (λ x y a b. (a, b)) opens.moments opens.others
+
+  run-others : IfTold host.told late.host.told (λ x y. Moments (HoldsCrash run (tried_changes run_is.account)) (length (changes_of run)) host.images late.host.images x y × LeavesOthers host.images late.host.images x y)
+  run-others = told-both host.told late.host.told (Moments (HoldsCrash run (tried_changes run_is.account)) (length (changes_of run)) host.images late.host.images) (LeavesOthers host.images late.host.images)
+      (λ x y. Moments (HoldsCrash run (tried_changes run_is.account)) (length (changes_of run)) host.images late.host.images x y × LeavesOthers host.images late.host.images x y) (λ x y a b. (a, b)) run_is.adds.moments run_is.adds.others
+
+  -- the other areas are left by the opening and by the run behind it
+  all-others : SparesOthers old.host late.host
+  all-others = told-join old.host.told host.told late.host.told (λ x y. IsLedgerOpening daemon.book.changes true old.host.images host.images x y × LeavesOthers old.host.images host.images x y)
+      (λ x y. Moments (HoldsCrash run (tried_changes run_is.account)) (length (changes_of run)) host.images late.host.images x y × LeavesOthers host.images late.host.images x y)
+      (LeavesOthers old.host.images late.host.images)
+      (λ x y z f g. others-then old.host.images host.images late.host.images x y z (opening-later daemon.book.changes true old.host.images host.images x y f.0) f.0.past g.0.past f.1 g.1) opened-others run-others
+
   causes : HasCauses (ending_of how) old (record { feed = late.feed; host = late.host; sink = sink })
   causes = record {
     feed = run_is.caused.feed;
@@ -128,6 +145,7 @@ module _ (task : Task) (old : Outside) (host : View) (daemon : DaemonState) (how
       asked = λ wants front last placed.
           told-join old.host.told host.told late.host.told (λ x y. (y.trace ≡ x.trace) × (x.moments ≤ y.moments)) (λ x y. AsksHost last y) (λ x y. AsksHost last y)
           (λ x y z f g. g) trace-kept (run_is.asked wants front last placed);
+      others = all-others;
     };
     is_broken = says.0.is_broken;
     printed = prints says.0.is_broken (shown_text task.verbosity (before ++ last run.ending)) (output (new_log task.verbosity) old.sink.written old.sink.faults)

@@ -4,11 +4,11 @@ use Rattle.fk_trace.specs.declared.change.Change.{Change}
 use Rattle.fk_run.specs.Place.{entry}
 use Rattle.fk_host.specs.Disk.{Above, IfTold}
 use Rattle.fk_conf.specs.declared.conf.Conf.{Conf}
-use Rattle.fk_journal.specs.Keeps.{IsOpening, LeavesOthers}
+use Rattle.fk_journal.specs.Keeps.{IsOpening}
 use Rattle.fk_ledger.specs.Book.{Book}
 use Rattle.fk_ledger.specs.Holds.{HoldsLedger, KeepsLedger}
 use Rattle.fk_ledger.specs.Stretch.{IsLedgerOpening}
-use Rattle.fk_child.specs.View.{View}
+use Rattle.fk_child.specs.View.{View, SparesOthers}
 use Rattle.fk_child.specs.Crew.{IsTied}
 use Rattle.fk_turn.specs.Daemon.{DaemonState}
 use Rattle.fk_daemon.specs.Serving.{OpensInVain}
@@ -23,7 +23,7 @@ pub record Opened (conf : Conf) (ledger : Book) (old new : View) : Type 0 where
   pub moments : (held : List Change) → IfTold old.told new.told (λ before later. HoldsLedger before.areas held → IsLedgerOpening held true old.images new.images before later)
   pub trace : IfTold old.told new.told (λ before later. later.trace ≡ before.trace)
   pub entries : IfTold old.told new.told (IsOpening old.images new.images)
-  pub others : IfTold old.told new.told (LeavesOthers old.images new.images)
+  pub others : SparesOthers old new
   pub disk : new.faults ≡ old.faults
 
 pub resumed : (conf : Conf) (ledger : Book) (daemon : DaemonState) (old new : View) → Opened conf ledger old new
@@ -52,6 +52,7 @@ resumed conf ledger daemon old new opened is tied settled =
       moments = told-both old.told new.told (λ before later. HoldsLedger before.areas daemon.book.changes)
           (λ before later. HoldsLedger before.areas daemon.book.changes → IsLedgerOpening daemon.book.changes true old.images new.images before later)
           (IsLedgerOpening daemon.book.changes true old.images new.images) (λ x y h g. g h) held (opened.moments daemon.book.changes);
+      others = opened.others;
       trace = opened.trace;
       disk = opened.disk;
     }

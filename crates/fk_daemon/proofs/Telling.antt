@@ -34,7 +34,7 @@ items-behind items x y z same adds =
       rising = adds.rising;
     }
 
-opening-later : (ledger : List Change) (whole : Bool) (old new : ℕ → Areas → Type 0) (x y : Told) → IsLedgerOpening ledger whole old new x y → x.moments ≤ y.moments
+pub opening-later : (ledger : List Change) (whole : Bool) (old new : ℕ → Areas → Type 0) (x y : Told) → IsLedgerOpening ledger whole old new x y → x.moments ≤ y.moments
 opening-later ledger whole old new x y opening = let a = opening.since in let b = opening.then.later in omega arith
 
 pub opened-then : (ledger : List Change) (old new : ℕ → Areas → Type 0) (x y : Told)

@@ -14,8 +14,8 @@ use Rattle.fk_log.specs.declared.verbosity.Verbosity.{Verbosity}
 use Rattle.fk_log.specs.Line.Line.{DiskFailedLine, DamagedLine}
 use Rattle.fk_log.specs.Log.{log_text}
 use Rattle.fk_log.specs.Shown.{shown_text}
-use Rattle.fk_child.specs.View.{View, AddsItems}
-use Rattle.fk_journal.specs.Keeps.{IsOpening, LeavesOthers}
+use Rattle.fk_child.specs.View.{View, SparesOthers, AddsItems}
+use Rattle.fk_journal.specs.Keeps.{IsOpening}
 use Rattle.fk_ledger.specs.Holds.{HoldsLedger, IsLedgerDamagedAt}
 use Rattle.fk_ledger.specs.Stretch.{IsLedgerOpening}
 use Rattle.fk_turn.specs.Serving.{calls_for}
@@ -67,13 +67,14 @@ AsksHostLast run old new =
     → IfTold old new (λ before later. AsksHost last later)
 
 -- The run of the account was served on the host: over the ledger that it held, with the run's items as the trace's new end, and its
--- changes on the disk as far as each moment says.
+-- changes on the disk as far as each moment says. The areas on which the ledger does not stand are left.
 pub record RunsOn (account : Account) (old new : View) : Type 0 where
   pub found : IfTold old.told new.told (λ before later. HoldsLedger before.areas account.run.ledger)
   pub faults : account.run.faults ≡ old.faults
   pub trace : IfTold old.told new.told (AddsItems (trace_of account.run))
   pub moments : IfTold old.told new.told (RunMoments account.run (tried_changes account) old.images new.images)
   pub asked : AsksHostLast account.run old.told new.told
+  pub others : SparesOthers old new
 
 -- A ledger was opened and served: this is one legal run over it, whose turns the feed gave, that was served on the host, and whose
 -- log was printed.
@@ -95,7 +96,7 @@ pub record OpensInVain (old new : View) : Type 0 where
   pub moments : (ledger : List Change) → IfTold old.told new.told (λ before later. HoldsLedger before.areas ledger
       → IsLedgerOpening ledger false old.images new.images before later)
   pub entries : IfTold old.told new.told (IsOpening old.images new.images)
-  pub others : IfTold old.told new.told (LeavesOthers old.images new.images)
+  pub others : SparesOthers old new
 
 -- why no ledger was opened, by the answer, and the one line that says so
 abbrev pub SaysWhyUnopened : Verbosity → Status → Bool → Outside → Outside → Type 0

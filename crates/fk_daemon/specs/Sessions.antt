@@ -36,7 +36,7 @@ use Rattle.fk_log.specs.Writing.{LogState, Output, Logs, output}
 use Rattle.fk_conf.specs.declared.conf.Conf.{Conf}
 use Rattle.fk_ledger.specs.Holds.{HoldsLedger, HoldsState, IsLedgerDamagedAt}
 use Rattle.fk_ledger.specs.Stretch.{IsLedgerOpening}
-use Rattle.fk_child.specs.View.{View, AddsItems, Moments}
+use Rattle.fk_child.specs.View.{View, SparesOthers, AddsItems, Moments}
 use Rattle.fk_turn.specs.Daemon.{DaemonState, Scene, AtRest, Rests}
 use Rattle.fk_turn.specs.declared.arrival.Arrival.{Arrival}
 use Rattle.fk_turn.specs.Rules.{rules_by, turn_of}
@@ -74,6 +74,7 @@ pub record OpensDaemon (conf : Conf) (old new : View) (daemon : DaemonState) : T
   pub rests : (out : Output) → AtRest conf (record { daemon = daemon; host = new; output = out }) (entry daemon.book.changes)
   pub found : IfTold old.told new.told (λ before later. HoldsLedger before.areas daemon.book.changes)
   pub moments : IfTold old.told new.told (IsLedgerOpening daemon.book.changes true old.images new.images)
+  pub others : SparesOthers old new
   pub trace : IfTold old.told new.told (λ before later. later.trace ≡ before.trace)
   pub disk : new.faults ≡ old.faults
 
@@ -113,6 +114,7 @@ pub record HoldsCrash (run : Run) (tried : List Change) (least moment : ℕ) (im
 pub record AddsTurns (run : Run) (tried : List Change) (old new : View) : Type 0 where
   pub trace : IfTold old.told new.told (AddsItems (trace_of run))
   pub moments : IfTold old.told new.told (Moments (HoldsCrash run tried) (length (changes_of run)) old.images new.images)
+  pub others : SparesOthers old new
 
 -- the session begins with this ledger
 pub record Begins (task : Task) (ledger : List Change) (at : Standing) : Type 0 where

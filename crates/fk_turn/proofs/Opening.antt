@@ -31,7 +31,7 @@ use Rattle.fk_conf.specs.declared.conf.Conf.{Conf}
 use Rattle.fk_ledger.specs.Book.{Book, has_room, live_ids}
 use Rattle.fk_ledger.specs.Holds.{KeepsLedger}
 use Rattle.fk_ledger.specs.Stretch.{Stretch}
-use Rattle.fk_child.specs.View.{View, MakesCalls, Adds}
+use Rattle.fk_child.specs.View.{View, MakesCalls, Adds, SparesOthers}
 use Rattle.fk_child.specs.Crew.{CrewState, IsTied}
 use Rattle.fk_child.specs.Calls.{Goes, AwaitsOpen, is_begun, recorded}
 use Rattle.fk_turn.specs.declared.policy.Policy.{Policy}
@@ -131,15 +131,15 @@ module _ (policy : Policy) (place : Place) (moment : ℕ) (source : Ip4) (datagr
     -- the disk failed in the call that records
     pub fails-record : (book : Book) (h1 : View) → answer_at policy place turn ≡ Opens item permit
         → IfTold h0.told h1.told (λ before later. later.trace ≡ before.trace)
-        → IfTold h0.told h1.told (Stretch d.book.changes (OpenChange item ∷ []) false h0.images h1.images)
+        → IfTold h0.told h1.told (Stretch d.book.changes (OpenChange item ∷ []) false h0.images h1.images) → SparesOthers h0 h1
         → h1.faults ≡ counted h0.faults → book.changes ≡ d.book.changes
         → FailsToRecord policy place turn (scene d h0 o0) (scene (record d { book = book }) h1 o0)
-    fails-record book h1 opens trace stretch faults changes = record {
+    fails-record book h1 opens trace stretch spares faults changes = record {
       item = item;
       permit = permit;
       given = opens;
       adds = adds-change place.ledger (OpenChange item) false h0 h1 rest.stands.stands.keeps trace
-          (subst (λ (cs : List Change). IfTold h0.told h1.told (Stretch cs (OpenChange item ∷ []) false h0.images h1.images)) rest.stands.changes stretch);
+          (subst (λ (cs : List Change). IfTold h0.told h1.told (Stretch cs (OpenChange item ∷ []) false h0.images h1.images)) rest.stands.changes stretch) spares;
       disk = faults;
       logs = logs-nothing o0;
       book = changes ∙ rest.stands.changes;
@@ -149,7 +149,7 @@ module _ (policy : Policy) (place : Place) (moment : ℕ) (source : Ip4) (datagr
     -- the record was made
     module _ (book : Book) (h1 : View) (opens : answer_at policy place turn ≡ Opens item permit)
         (trace : IfTold h0.told h1.told (λ before later. later.trace ≡ before.trace)) (above : h1.above ≡ h0.above)
-        (stretch : IfTold h0.told h1.told (Stretch d.book.changes (OpenChange item ∷ []) true h0.images h1.images)) (faults : h1.faults ≡ h0.faults)
+        (stretch : IfTold h0.told h1.told (Stretch d.book.changes (OpenChange item ∷ []) true h0.images h1.images)) (spares : SparesOthers h0 h1) (faults : h1.faults ≡ h0.faults)
         (kept : book ≡ record d.book { changes = after d.book.changes (OpenChange item ∷ []); reserved = book.reserved }) where
       abbrev open_place : Place
       open_place = recorded place item
@@ -159,7 +159,7 @@ module _ (policy : Policy) (place : Place) (moment : ℕ) (source : Ip4) (datagr
 
       adds1 : Adds [] place.ledger (OpenChange item ∷ []) true h0 h1
       adds1 = adds-change place.ledger (OpenChange item) true h0 h1 rest.stands.stands.keeps trace
-          (subst (λ (cs : List Change). IfTold h0.told h1.told (Stretch cs (OpenChange item ∷ []) true h0.images h1.images)) rest.stands.changes stretch)
+          (subst (λ (cs : List Change). IfTold h0.told h1.told (Stretch cs (OpenChange item ∷ []) true h0.images h1.images)) rest.stands.changes stretch) spares
 
       -- its open is yet to be attempted
       pub awaits-open : (id : ℕ) → id ≡ item.id → (KeepsLedger book.changes h1.told h1.images) → AwaitsOpen id item.due item place (crew_host d.crew h1)

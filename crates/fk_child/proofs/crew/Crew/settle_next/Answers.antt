@@ -41,7 +41,7 @@ returns-in-Ok-clause-settles g c =
     let same : c.remove-owed.result ≡ c.id-id.result = c.remove-owed.ensures.value ∙ read-at c.self.inside.owed.items c.index_of-index.result c.id-id.result c.remove-owed.result placed in
     let first : c.self.inside.settles.items ≡ c.id-id.result ∷ c.pop_front.new.self.items = c.in-Some.ensures.items ∙ ap (λ (n : ℕ). n ∷ c.pop_front.new.self.items) (sym c.id-id.ensures) in
     subst (λ (s : CrewState). AtEachOver c.args.ledger.now.changes (SettlesFirst c.id-id.result c.args.ledger.now c.settle.new.self) (on s c.args.host.now) (on crew' c.settle.new.disk)) c.self.view_is
-    (λ place e at. settles-first crew crew' old new place c.args.ledger.now c.settle.new.self c.id-id.result c.remove-owed.result e same c.in-Ok.ensures.host.trace
+    (λ place e at. settles-first crew crew' old new place c.args.ledger.now c.settle.new.self c.id-id.result c.remove-owed.result e same c.in-Ok.ensures.host.trace c.in-Ok.ensures.others
     c.index_of-index.result c.pop_front.new.self.items at first placed c.remove-owed.ensures.items refl refl refl
     c.in-Ok.ensures.ok c.in-Ok.ensures.keeps c.in-Ok.ensures.moments c.in-Ok.ensures.host.rest c.in-Ok.ensures.cause c.in-Ok.ensures.calls)
 
@@ -61,6 +61,6 @@ returns-in-Err-clause-settles g c =
     c.put_back.ensures.items ∙ ap (λ (ids : List ℕ). insert ids index c.in-Err.owed) c.remove-owed.ensures.items ∙ ap (insert (remove c.self.inside.owed.items index) index) back
     ∙ insert-removed c.self.inside.owed.items index c.id-id.result placed in
     subst (λ (s : CrewState). AtEachOver c.args.ledger.now.changes (FailsToSettle c.args.ledger.now c.settle.new.self) (on s c.args.host.now) (on crew' c.settle.new.disk)) c.self.view_is
-    (λ place e at. fails-to-settle crew crew' old new place c.args.ledger.now c.settle.new.self c.id-id.result c.remove-owed.result e same c.in-Err.ensures.host.trace
+    (λ place e at. fails-to-settle crew crew' old new place c.args.ledger.now c.settle.new.self c.id-id.result c.remove-owed.result e same c.in-Err.ensures.host.trace c.in-Err.ensures.others
     c.pop_front.new.self.items at first (ap (λ (ids : List ℕ). let s : CrewState = record crew { owed = ids; unsettled = c.pop_front.new.self.items } in s) held)
     c.in-Err.ensures.err.1 c.in-Err.ensures.moments c.in-Err.ensures.host.rest c.in-Err.ensures.cause)

@@ -69,7 +69,7 @@ returns-in-Err-Disk g c =
     let h0 : View = view c.args.host.now in
     let opens = room-opens policy place c.args.moment c.args.source datagram grant granted c.args.draft.item draft.item d h0 o0 rest (λ full. let f = c.in-Err-Disk.ensures.full.1 full in let is = c.in-Err-Disk.field-0-is in cc) in
     fails-record policy place c.args.moment c.args.source datagram grant granted c.args.draft.item draft.item d h0 o0 rest c.record.new.self (view c.record.new.disk) opens
-    c.in-Err-Disk.ensures.host.trace c.in-Err-Disk.ensures.moments
+    c.in-Err-Disk.ensures.host.trace c.in-Err-Disk.ensures.moments c.in-Err-Disk.ensures.others
     (c.in-Err-Disk.ensures.cause ∙ ap (λ (e : RecordFault). cond (is_disk_record_fault e) (counted (g.H.Disk.faults c.args.host.now)) (g.H.Disk.faults c.args.host.now)) c.in-Err-Disk.field-0-is)
     (ap (λ (b : Book). b.changes) (c.in-Err-Disk.ensures.spent (ap errs c.in-Err-Disk.field-0-is))))
 
@@ -110,10 +110,10 @@ returns-in_err-begun-in-Ok g c =
     let h1 : View = view c.record.new.disk in
     let opens = room-opens policy place c.args.moment c.args.source datagram grant granted c.args.draft.item draft.item d h0 o0 rest (λ full. let f = c.in-Ok.ensures.full.1 full in cc) in
     let awaits = awaits-open policy place c.args.moment c.args.source datagram grant granted c.args.draft.item draft.item d h0 o0 rest c.record.new.self h1 opens
-    c.in-Ok.ensures.host.trace c.in-Ok.ensures.host.rest c.in-Ok.ensures.moments c.in-Ok.ensures.cause c.in-Ok.ensures.ok c.in-Ok.owed c.in-Ok.ensures.owed c.in-Ok.ensures.keeps in
+    c.in-Ok.ensures.host.trace c.in-Ok.ensures.host.rest c.in-Ok.ensures.moments c.in-Ok.ensures.others c.in-Ok.ensures.cause c.in-Ok.ensures.ok c.in-Ok.owed c.in-Ok.ensures.owed c.in-Ok.ensures.keeps in
     let goes = c.in_err-begun-in-Ok.ensures.starts c.args.draft.item place awaits in
     let wants = wants-start policy place c.args.moment c.args.source datagram grant granted c.args.draft.item draft.item d h0 o0 rest c.record.new.self h1 opens
-    c.in-Ok.ensures.host.trace c.in-Ok.ensures.host.rest c.in-Ok.ensures.moments c.in-Ok.ensures.cause c.in-Ok.ensures.ok c.args.stanza stanza o1 c.add-in-Ok.ensures
+    c.in-Ok.ensures.host.trace c.in-Ok.ensures.host.rest c.in-Ok.ensures.moments c.in-Ok.ensures.others c.in-Ok.ensures.cause c.in-Ok.ensures.ok c.args.stanza stanza o1 c.add-in-Ok.ensures
     c.start_open.new.self (view c.start_open.new.host) c.in-Ok.ensures.calls (goes c.args.moment) in
     wanting policy place (datagram_turn c.args.moment c.args.source datagram) (scene_by g.H.Disk g.K.Sink d c.args.host.now c.args.log.now c.args.out.now) new c.from_residual.result c.from_residual.ensures.1 wants)
 
@@ -136,10 +136,10 @@ returns g c =
     let h1 : View = view c.record.new.disk in
     let opens = room-opens policy place c.args.moment c.args.source datagram grant granted c.args.draft.item draft.item d h0 o0 rest (λ full. let f = c.in-Ok.ensures.full.1 full in cc) in
     let awaits = awaits-open policy place c.args.moment c.args.source datagram grant granted c.args.draft.item draft.item d h0 o0 rest c.record.new.self h1 opens
-    c.in-Ok.ensures.host.trace c.in-Ok.ensures.host.rest c.in-Ok.ensures.moments c.in-Ok.ensures.cause c.in-Ok.ensures.ok c.in-Ok.owed c.in-Ok.ensures.owed c.in-Ok.ensures.keeps in
+    c.in-Ok.ensures.host.trace c.in-Ok.ensures.host.rest c.in-Ok.ensures.moments c.in-Ok.ensures.others c.in-Ok.ensures.cause c.in-Ok.ensures.ok c.in-Ok.owed c.in-Ok.ensures.owed c.in-Ok.ensures.keeps in
     let starts = c.in_ok-begun-in-Ok.ensures.starts c.args.draft.item place awaits in
     let tried : IsAttempt (Open c.args.draft.item.id) c.args.draft.opening starts.0.event = subst (λ (n : ℕ). IsAttempt (Open n) c.args.draft.opening starts.0.event) c.in-Ok.ensures.owed starts.1 in
     opens-whole policy place c.args.moment c.args.source datagram grant granted c.args.draft.item draft.item d h0 o0 rest c.record.new.self h1 opens
-    c.in-Ok.ensures.host.trace c.in-Ok.ensures.host.rest c.in-Ok.ensures.moments c.in-Ok.ensures.cause c.in-Ok.ensures.ok c.args.stanza stanza o1 c.add-in-Ok.ensures
+    c.in-Ok.ensures.host.trace c.in-Ok.ensures.host.rest c.in-Ok.ensures.moments c.in-Ok.ensures.others c.in-Ok.ensures.cause c.in-Ok.ensures.ok c.args.stanza stanza o1 c.add-in-Ok.ensures
     c.start_open.new.self (view c.start_open.new.host) c.in-Ok.ensures.calls c.args.draft.opening c.in_ok-begun-in-Ok.begun starts.0 o2 draft.opening tried starts.2 (starts.3 c.args.moment) c.add-in-Ok-2.ensures
     c.in_ok-begun-in-Ok.ensures.rest.0)
