@@ -10,9 +10,9 @@
 mod packets;
 mod repeat;
 
-use fk_base::{Keys, NoMemory, read_decimal};
+use fk_base::{Bytes, Keys, NoMemory, read_decimal};
 use fk_packet::PacketFault;
-use packets::{last_opened, last_packed, other_keys, right_keys};
+use packets::{DATAGRAM, last_opened, last_packed, other_keys, right_keys};
 use repeat::{decrypted, encrypted, last_digest, last_mac, last_md5};
 use std::alloc::Global;
 use std::marker::Brand;
@@ -64,7 +64,9 @@ fn last_result(alloc: Global, name: &str, count: u64) -> Result<Option<String>, 
 
 /// The random value of the packet that was opened; no bytes where its HMAC was refused.
 fn opened(alloc: Global, keys: &Keys, count: u64) -> Result<Option<String>, NoMemory> {
-    match last_opened::<Brand>(alloc, Blank::new(1), keys, count) {
+    // A copy, since a compiler tests a constant's letters before the program runs.
+    let datagram = Bytes::copy(alloc, DATAGRAM)?;
+    match last_opened::<Brand>(alloc, Blank::new(1), datagram.as_slice(), keys, count) {
         Ok(fields) => Ok(Some(hex::encode(alloc, &fields.rand.digits())?)),
         Err(PacketFault::Mac) => Ok(Some(hex::encode(alloc, &[])?)),
         Err(PacketFault::NoMemory) => Err(NoMemory),
@@ -74,7 +76,7 @@ fn opened(alloc: Global, keys: &Keys, count: u64) -> Result<Option<String>, NoMe
 
 /// The datagram of the same fields.
 fn packed(alloc: Global, keys: &Keys, count: u64) -> Result<Option<String>, NoMemory> {
-    match last_opened::<Brand>(alloc, Blank::new(1), keys, 0) {
+    match last_opened::<Brand>(alloc, Blank::new(1), DATAGRAM, keys, 0) {
         Ok(fields) if fields.check().is_ok() => {
             let datagram = last_packed(alloc, &fields, keys, count)?;
             Ok(Some(hex::encode(alloc, datagram.as_slice())?))

@@ -34,23 +34,24 @@ fn keys(alloc: Global, mac_key: &[u8; 7]) -> Result<Keys, NoMemory> {
     })
 }
 
-/// Opens the datagram so many times under the keys, and once more, and answers what the last time gives.
+/// Opens a datagram so many times under the keys, and once more, and answers what the last time gives.
 pub fn last_opened<L: Ledger>(
     alloc: Global,
     blank: Blank,
+    datagram: &[u8],
     keys: &Keys,
     count: u64,
 ) -> Result<Fields, PacketFault>
     requires name { blank.name ≡ L.name }
     requires parts { blank.parts ≡ L.parts }
     requires some { 0 < L.parts }
-    ensures { IfOk result (λ fields. Packs keys.now fields DATAGRAM.now) }
+    ensures { IfOk result (λ fields. Packs keys.now fields datagram.now) }
 {
     let mut steps: Steps<L> = Steps::new(blank);
     for _ in 0..count {
-        let _ = unpack(alloc, DATAGRAM, keys, &mut steps);
+        let _ = unpack(alloc, datagram, keys, &mut steps);
     }
-    unpack(alloc, DATAGRAM, keys, &mut steps)
+    unpack(alloc, datagram, keys, &mut steps)
 }
 
 /// Packs the fields so many times under the keys, and once more, and answers what the last time gives.
