@@ -1,5 +1,5 @@
-//! What both programs do alike: they take their words, they read a file whole, they tell a fault of their words and files by one line and a status, and they
-//! show a text.
+//! What both programs do alike: they take their words, they read a file whole, they tell a fault of their words and files by one
+//! line and a status, and they show a text.
 //!
 //! What words and files mean is said by `fk_conf` and `fk_access`. What a program does with them, and the faults of its other objects,
 //! are no part of it: those stand in `fk_command` and in `fk_client`.
