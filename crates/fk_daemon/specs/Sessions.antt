@@ -38,7 +38,7 @@ use Rattle.fk_ledger.specs.Holds.{HoldsLedger, HoldsState, IsLedgerDamagedAt}
 use Rattle.fk_ledger.specs.Stretch.{IsLedgerOpening}
 use Rattle.fk_child.specs.View.{View, SparesOthers, AddsItems, Moments}
 use Rattle.fk_turn.specs.Daemon.{DaemonState, Scene, AtRest, Rests}
-use Rattle.fk_turn.specs.declared.arrival.Arrival.{Arrival}
+use Rattle.fk_turn.specs.declared.feed_turn.FeedTurn.{FeedTurn as GivenTurn}
 use Rattle.fk_turn.specs.Rules.{rules_by, turn_of}
 use Rattle.fk_turn.specs.Serving.{ServesWhole, FailsAtDisk, WantsMemory, OwesItsLive}
 use Rattle.fk_daemon.specs.declared.task.Task.{Task}
@@ -189,9 +189,9 @@ abbrev pub is_over : Limits → ℕ → ℕ → Bool
 is_over limits turns packets = nat_le (turn_limit limits) turns || option_map_or (λ most. nat_le most packets) limits.packets false
 
 -- what a turn of the feed is, as it is handed in: the end is none
-abbrev pub IsArrival : Turn → List ℕ → Option Arrival → Type 0
-IsArrival turn buffer None = (is_end_input turn.input ≡ true) × (turns_of_feed turn buffer ≡ [])
-IsArrival turn buffer (Some arrival) = (is_end_input turn.input ≡ false) × (turns_of_feed turn buffer ≡ turn_of arrival ∷ [])
+abbrev pub IsFeedTurn : Turn → List ℕ → Option GivenTurn → Type 0
+IsFeedTurn turn buffer None = (is_end_input turn.input ≡ true) × (turns_of_feed turn buffer ≡ [])
+IsFeedTurn turn buffer (Some taken) = (is_end_input turn.input ≡ false) × (turns_of_feed turn buffer ≡ turn_of taken ∷ [])
 
 -- the session can sum up this run
 pub record SumsUp (session : Session) (run : Run) : Type 0 where

@@ -14,14 +14,14 @@ ghost use Rattle.fk_daemon.specs.Account.{AreLimits};
 ghost use Rattle.fk_log.specs.Printing.{sink_by};
 ghost use Rattle.fk_daemon.specs.Outside.{feed_by, outside_by};
 ghost use Rattle.fk_daemon.specs.Serving.{HasStatus};
-ghost use Rattle.fk_daemon.specs.Sessions.{AsksNext, Begins, BeginsSomehow, Finishes, IsArrival, MayServe, SaysEnd, ServesTaken, ending_of, is_over, new_log, scene_of, standing_by, summary_by};
+ghost use Rattle.fk_daemon.specs.Sessions.{AsksNext, Begins, BeginsSomehow, Finishes, IsFeedTurn, MayServe, SaysEnd, ServesTaken, ending_of, is_over, new_log, scene_of, standing_by, summary_by};
 
 use crate::Task;
 use fk_base::{Failed, Status};
 use fk_host::{DATAGRAM_ROOM, Feed, Host, Input, Sink, Turn};
 use fk_log::{LogItem, LogWriter, Verbosity, no_lines_log_nothing};
 use fk_run::Limits;
-use fk_turn::{Arrival, Brought, Daemon, TurnErr};
+use fk_turn::{Daemon, FeedInput, FeedTurn, TurnErr};
 
 /// Why no further turn is served.
 #[derive(Clone, Copy, Debug, PartialEq, Eq)]
@@ -114,9 +114,9 @@ impl Session {
         let Ok(turn) = feed.next(buffer) else {
             return Some(Stop::FeedFault);
         };
-        match arrival_of(&turn, buffer) {
+        match feed_turn(&turn, buffer) {
             None => Some(Stop::End),
-            Some(arrival) => self.serve_taken(task, &arrival, feed, host, out),
+            Some(taken) => self.serve_taken(task, &taken, feed, host, out),
         }
     }
 
@@ -124,7 +124,7 @@ impl Session {
     fn serve_taken<E: Feed, H: Host, K: Sink>(
         &mut self,
         task: &Task<'_>,
-        arrival: &Arrival<'_>,
+        turn: &FeedTurn<'_>,
         feed: &E,
         host: &mut H,
         out: &mut K,
@@ -133,14 +133,14 @@ impl Session {
             MayServe task.now (at self.old feed.now host.old out.old) }
         ensures { let at = standing_by E.Feed H.Disk K.Sink in
             (place : Place) → AtRest task.now.policy.conf.now (scene_of (at self.old feed.now host.old out.old)) place
-            → ServesTaken task.now (turn_of arrival.now) result place (at self.old feed.now host.old out.old) (at self.new feed.now host.new out.new) }
+            → ServesTaken task.now (turn_of turn.now) result place (at self.old feed.now host.old out.old) (at self.new feed.now host.new out.new) }
     {
         match self
             .daemon
-            .serve(&task.policy, arrival, host, &mut self.log, out)
+            .serve(&task.policy, turn, host, &mut self.log, out)
         {
             Ok(()) => {
-                self.count(arrival);
+                self.count(turn);
                 None
             }
             Err(TurnErr::Disk) => Some(Stop::DiskFault),
@@ -149,16 +149,16 @@ impl Session {
     }
 
     /// Counts a turn that was served.
-    fn count(&mut self, arrival: &Arrival<'_>)
+    fn count(&mut self, turn: &FeedTurn<'_>)
         requires turns { self.old.turns < 2 ^ 63 }
         requires packets { self.old.packets ≤ self.old.turns }
         ensures { self.new ≡ record self.old {
           turns = self.old.turns + 1;
-          packets = self.old.packets + (if is_datagram (turn_of arrival.now).input then 1 else 0);
+          packets = self.old.packets + (if is_datagram (turn_of turn.now).input then 1 else 0);
         } }
     {
         self.turns += 1;
-        if let Brought::Datagram { .. } = arrival.brought {
+        if let FeedInput::Datagram { .. } = turn.input {
             self.packets += 1;
         }
     }
@@ -200,22 +200,22 @@ impl Session {
     }
 }
 
-/// A turn of the feed as a daemon takes it.
-fn arrival_of<'a>(turn: &Turn, buffer: &'a [u8]) -> Option<Arrival<'a>>
+/// A turn of the feed with the bytes of its datagram, or None at the feed's end.
+fn feed_turn<'a>(turn: &Turn, buffer: &'a [u8]) -> Option<FeedTurn<'a>>
     requires { datagram_len turn.now.input ≤ length buffer.now }
-    ensures { IsArrival turn.now buffer.now result }
+    ensures { IsFeedTurn turn.now buffer.now result }
 {
-    let brought = match turn.input {
+    let input = match turn.input {
         Input::End => return None,
-        Input::Quiet => Brought::Quiet,
-        Input::Datagram { source, len } => Brought::Datagram {
+        Input::Quiet => FeedInput::Quiet,
+        Input::Datagram { source, len } => FeedInput::Datagram {
             source,
             bytes: &buffer[..len],
         },
     };
-    Some(Arrival {
+    Some(FeedTurn {
         moment: turn.moment,
-        brought,
+        input,
     })
 }
 

@@ -28,6 +28,10 @@ IsLineAt line moment (Datagram source datagram) =
 abbrev pub IsTurnLine : List ℕ → FeedTurn → Type 0
 IsTurnLine line turn = (turn.moment ≤ GREATEST_MOMENT) × IsLineAt line turn.moment turn.input
 
+-- the line is that of no turn
+abbrev pub IsNoTurnLine : List ℕ → Type 0
+IsNoTurnLine line = (turn : FeedTurn) → IsTurnLine line turn → ⊥
+
 -- what lines say: the turns, and the first fault
 abbrev pub ReadsTurns : List (List ℕ) → List FeedTurn → Option Fault → Type 0
 ReadsTurns lines turns fault = Reads IsTurnLine 0 1 lines turns fault

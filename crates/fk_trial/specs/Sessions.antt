@@ -34,7 +34,7 @@ use Rattle.fk_turn.specs.Serving.{OwesItsLive}
 use Rattle.fk_trial.specs.declared.session.Session.{Session}
 use Rattle.fk_trial.specs.declared.session.Stop.{Stop}
 use Rattle.fk_trial.specs.declared.session.Stop.TheVariants as stop
-use Rattle.fk_trial.specs.Lines.{IsTurnLine}
+use Rattle.fk_trial.specs.Lines.{IsNoTurnLine, IsTurnLine}
 use Rattle.fk_trial.specs.Streams.{Streams, TakesAtMost, streams_by}
 use Rattle.fk_trial.specs.Trace.{IsTrialTrace}
 use Rattle.fk_trial.specs.Trial.{IsTrial, WantsForLine, HasTurns, HasStatus}
@@ -204,7 +204,7 @@ abbrev pub ServesLine : Policy → Option Stop → Place → Session → Session
 ServesLine policy None place old new before after =
     (turn : FeedTurn) × IsTurnLine old.reader.line turn × ServesTurn policy turn place old new before after
 ServesLine policy (Some stop.BadLine) place old new before after =
-    ((turn : FeedTurn) → IsTurnLine old.reader.line turn → ⊥) × (new ≡ old) × (after ≡ before)
+    IsNoTurnLine old.reader.line × (new ≡ old) × (after ≡ before)
 ServesLine policy (Some stop.NoMemory) place old new before after = StopsServing old new before after
 ServesLine policy (Some _) place old new before after = ⊥
 

@@ -1,23 +1,22 @@
 ghost use Rattle.std.specs.Prelude.{◌≡◌, ◌≢◌, ◌==◌, ◌∷◌, ◌++◌, ◌↔◌, All, IsTrue, MatchOption, IfSome, IfNone, position};
 ghost use Rattle.std.specs.List.{list_all};
-ghost use Rattle.fk_trace.specs.Decision.{FeedTurn};
 ghost use Rattle.fk_turn.specs.Rules.{turn_of};
-ghost use Rattle.fk_trial.specs.Lines.{is_visible, IsTurnLine, IsVisibleText};
+ghost use Rattle.fk_trial.specs.Lines.{is_visible, IsNoTurnLine, IsTurnLine, IsVisibleText};
 
 use fk_base::{read_ip, read_moment};
-use fk_turn::{Arrival, Brought};
+use fk_turn::{FeedInput, FeedTurn};
 
 /// Reads a line of the input, without its line feed, as the turn that it says.
-pub(crate) fn read_arrival(line: &[u8]) -> Option<Arrival<'_>>
-    ensures turn { IfSome result (λ arrival. IsTurnLine line.now (turn_of arrival)) }
-    ensures none { IfNone result ((turn : FeedTurn) → IsTurnLine line.now turn → ⊥) }
+pub(crate) fn read_turn(line: &[u8]) -> Option<FeedTurn<'_>>
+    ensures turn { IfSome result (λ turn. IsTurnLine line.now (turn_of turn)) }
+    ensures none { IfNone result (IsNoTurnLine line.now) }
 {
     match cut_at_space(line) {
         None => {
             let moment = read_moment(line).ok()?;
-            Some(Arrival {
+            Some(FeedTurn {
                 moment,
-                brought: Brought::Quiet,
+                input: FeedInput::Quiet,
             })
         }
         Some((moment, rest)) => {
@@ -27,9 +26,9 @@ pub(crate) fn read_arrival(line: &[u8]) -> Option<Arrival<'_>>
             if !is_visible_text(bytes) {
                 return None;
             }
-            Some(Arrival {
+            Some(FeedTurn {
                 moment,
-                brought: Brought::Datagram { source, bytes },
+                input: FeedInput::Datagram { source, bytes },
             })
         }
     }

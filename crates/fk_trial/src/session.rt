@@ -11,7 +11,7 @@ ghost use Rattle.fk_trial.specs.Trial.{HasStatus};
 ghost use Rattle.fk_trial.specs.Sessions.{Begins, EndsSo, GoesOn, Going, GoingSomehow, HoldsPages, MayEnd, MayServe, MaySumUp, OpensDaemon, PrintsPage, RestsAt, SaysLast, Sends, ServesLine, Standing, Stopped, ending_of, last_lines, standing_by, summary_by};
 
 use crate::TrialTask;
-use crate::line::read_arrival;
+use crate::line::read_turn;
 use crate::trial_host::TrialHost;
 use fk_base::{NoMemory, Status};
 use fk_conf::Conf;
@@ -19,7 +19,7 @@ use fk_host::{MemSink, Sink, Source, unscripted_children_end_well, write_all};
 use fk_input::{LineReader, NextLine};
 use fk_ledger::{Ledger, no_area_holds_two_ledgers};
 use fk_log::{LogItem, LogWriter, no_lines_log_nothing};
-use fk_turn::{Arrival, Daemon, Policy};
+use fk_turn::{Daemon, Policy};
 use std::alloc::Global;
 
 /// Why no further line is served.
@@ -112,14 +112,14 @@ impl Session {
             (place : Place) → RestsAt policy.now.conf.now self.old.daemon self.old.host place
             → ServesLine policy.now result place self.old self.new (sink out.old) (sink out.new) }
     {
-        let Some(arrival) = read_arrival(self.reader.line()) else {
+        let Some(turn) = read_turn(self.reader.line()) else {
             return Some(Stop::BadLine);
         };
         unscripted_children_end_well();
         let mut page = MemSink::new(self.alloc, None);
         match self
             .daemon
-            .serve(policy, &arrival, &mut self.host, &mut self.log, &mut page)
+            .serve(policy, &turn, &mut self.host, &mut self.log, &mut page)
         {
             Ok(()) if !self.host.is_short() => self.print(page.written(), out),
             _ => Some(Stop::NoMemory),

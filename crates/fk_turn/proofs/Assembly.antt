@@ -39,8 +39,8 @@ use Rattle.fk_turn.specs.declared.turn_err.TurnErr.{TurnErr}
 use Rattle.fk_turn.specs.declared.turn_err.TurnErr.TheVariants.{Disk, NoMemory}
 use Rattle.fk_turn.specs.Daemon.{Scene, DaemonStands, AtRest}
 use Rattle.fk_turn.specs.Rules.{rules_by}
-use Rattle.fk_turn.specs.Serving.{Part, calls_for, joined, reached, Serves, OwesItsLive, ServesWhole, ServesTurn, FailsAtDisk, WantsMemory}
-use Rattle.fk_turn.specs.Parts.{beginning, BeginsTurn, settlement, SettlesWhole, FailsToSettle, answering, Answers, AnswersWhole, FailsToRecord, WantsToAnswer, closing_part, AttemptsCloses, Closes}
+use Rattle.fk_turn.specs.Serving.{calls_for, OwesItsLive, ServesWhole, ServesTurn, FailsAtDisk, WantsMemory}
+use Rattle.fk_turn.specs.Parts.{beginning, BeginsTurn, settlement, SettlesWhole, FailsToSettle, answering, Answers, AnswersWhole, FailsToRecord, WantsToAnswer, closing_part, AttemptsCloses, Closes, Part, joined, reached, ServesPart}
 use Rattle.fk_turn.proofs.Items.{Tries, Polls, polls-no_turns, polls-close_none, opened-tries, opened-close_none, polled-polls, all-joined, tried-after, tried-none, tries-no_turns, ends_after-append, polls-others, tries-attempts}
 use Rattle.fk_turn.proofs.Places.{place-same, serves-join, next-stands, scene_next}
 use Rattle.fk_turn.proofs.Calls.{IsFirst, first-brought, first-then}
@@ -219,16 +219,16 @@ module _ (policy : Policy) (place : Place) (turn : FeedTurn) (s0 s1 : Scene) (b 
     pub settled-stands : AtRest conf s2 answer_place
     settled-stands = record { stands = settles.serves.stands; settled = settles.settled }
 
-    serves2 : Serves conf turn.moment place part2 s0 s2
+    serves2 : ServesPart conf turn.moment place part2 s0 s2
     serves2 = serves-join conf turn.moment place part1 (settlement turn.moment ids) s0 s1 s2 (record { attempts = inr others; others = inl refl }) b.serves
-        (subst (λ (at : Place). Serves conf turn.moment at (settlement turn.moment ids) s1 s2) polled-reached settles.serves)
+        (subst (λ (at : Place). ServesPart conf turn.moment at (settlement turn.moment ids) s1 s2) polled-reached settles.serves)
 
     -- the same with plain items
     abbrev plain2 : Part
     plain2 = record { items = b.start ∷ b.polled; changes = map Done ids; lines = part1.lines ++ map (SettledLine turn.moment) ids }
 
-    plainly2 : Serves conf turn.moment place plain2 s0 s2
-    plainly2 = subst (λ (part : Part). Serves conf turn.moment place part s0 s2) (part-same part2 plain2 (append-nil (b.start ∷ b.polled)) refl refl) serves2
+    plainly2 : ServesPart conf turn.moment place plain2 s0 s2
+    plainly2 = subst (λ (part : Part). ServesPart conf turn.moment place part s0 s2) (part-same part2 plain2 (append-nil (b.start ∷ b.polled)) refl refl) serves2
 
     calls2 : MakesCalls (calls_for (b.start ∷ b.polled) (map Done ids)) s0.host s2.host
     calls2 = calls-same (calls_for (b.start ∷ b.polled) [] + calls_for [] (map Done ids)) (calls_for (b.start ∷ b.polled) (map Done ids)) s0.host s2.host (omega arith)
@@ -344,7 +344,7 @@ module _ (policy : Policy) (place : Place) (turn : FeedTurn) (s0 s1 : Scene) (b 
       abbrev plain3 : Part
       plain3 = joined plain2 (answering turn answer_given a.opened)
 
-      serves3 : Serves conf turn.moment place plain3 s0 s3
+      serves3 : ServesPart conf turn.moment place plain3 s0 s3
       serves3 = serves-join conf turn.moment place plain2 (answering turn answer_given a.opened) s0 s2 s3
           (record { attempts = inr others; others = inr (tries-attempts a.opened tries) }) plainly2 a.serves
 
@@ -371,12 +371,12 @@ module _ (policy : Policy) (place : Place) (turn : FeedTurn) (s0 s1 : Scene) (b 
             ∙ append_assoc (plain2.lines ++ input) (attempt_lines turn.moment a.opened) (attempt_lines turn.moment done.closed)
             ∙ sym (lines-of (rules_by policy) place Told turn b.start b.polled a.opened done.closed ids (recorded_by answer_given) b.begins polls tries closed-tries (dones-recorded answer_given))
 
-        serves4 : Serves conf turn.moment place plain4 s0 s4
+        serves4 : ServesPart conf turn.moment place plain4 s0 s4
         serves4 =
-            subst (λ (part : Part). Serves conf turn.moment place part s0 s4)
+            subst (λ (part : Part). ServesPart conf turn.moment place part s0 s4)
             (part-same (joined plain3 (closing_part turn.moment done.closed)) plain4 refl (append-nil taken.changes) plain-lines)
             (serves-join conf turn.moment place plain3 (closing_part turn.moment done.closed) s0 s3 s4 (record { attempts = inl refl; others = inr (tries-attempts done.closed closed-tries) }) serves3
-            (subst (λ (at : Place). Serves conf turn.moment at (closing_part turn.moment done.closed) s3 s4)
+            (subst (λ (at : Place). ServesPart conf turn.moment at (closing_part turn.moment done.closed) s3 s4)
             (closes-place (rules_by policy) place turn b.start b.polled ids a.opened) done.serves))
 
         calls4 : MakesCalls (calls_for taken.items taken.changes + further) s0.host s4.host

@@ -30,8 +30,7 @@ use Rattle.fk_child.specs.View.{View, Adds}
 use Rattle.fk_child.specs.Crew.{CrewState, IsTied, StandsAt, obligations_but}
 use Rattle.fk_child.specs.Calls.{Goes, TriesNext, IsNextClose, is_begun}
 use Rattle.fk_turn.specs.Daemon.{Scene, DaemonStands, AtRest, RestsSomehow, scene}
-use Rattle.fk_turn.specs.Serving.{Part, joined, reached, Serves}
-use Rattle.fk_turn.specs.Parts.{AttemptsNext, closing_part, AttemptsCloses, Closes}
+use Rattle.fk_turn.specs.Parts.{AttemptsNext, closing_part, AttemptsCloses, Closes, Part, joined, reached, ServesPart}
 use Rattle.fk_child.proofs.Images.{calls-none, calls-then, calls-same}
 use Rattle.fk_turn.proofs.Logging.{logs-nothing}
 use Rattle.fk_turn.proofs.Places.{place-same, serves-join}
@@ -143,7 +142,7 @@ module _ (conf : Conf) (moment : ℕ) (place : Place) (s0 : Scene) (book : Book)
     abbrev s2 : Scene
     s2 = scene (record { book = book; crew = c2; turns = turns }) h2 o2
 
-    step : Serves conf moment at (closing_part moment items) s1 s2
+    step : ServesPart conf moment at (closing_part moment items) s1 s2
     step =
         let before = closes-stands conf moment place s0 s1 done in
         let stands : DaemonStands conf s2 (behind moment at items) = record {
@@ -168,11 +167,11 @@ module _ (conf : Conf) (moment : ℕ) (place : Place) (s0 : Scene) (book : Book)
           (let both = length-append done.closed items in omega (arith, both))
           (calls-then (length done.closed + 0) (length items + further) s0.host h1 h2 done.calls goes.calls);
       attempts = attempts;
-      serves = subst (λ (part : Part). Serves conf moment place part s0 s2)
+      serves = subst (λ (part : Part). ServesPart conf moment place part s0 s2)
           (part-same (joined (closing_part moment done.closed) (closing_part moment items)) (closing_part moment (done.closed ++ items)) refl refl
           (sym (filter_map-append (λ (item : Item). attempt_line moment (attempt_of item.event)) done.closed items)))
           (serves-join conf moment place (closing_part moment done.closed) (closing_part moment items) s0 s1 s2 (record { attempts = inl refl; others = inl refl }) done.serves
-          (subst (λ (p : Place). Serves conf moment p (closing_part moment items) s1 s2) (behind-reached moment place done.closed) step));
+          (subst (λ (p : Place). ServesPart conf moment p (closing_part moment items) s1 s2) (behind-reached moment place done.closed) step));
       settled = settled;
     }
 

@@ -39,8 +39,8 @@ use Rattle.fk_turn.specs.declared.turn_err.TurnErr.{TurnErr}
 use Rattle.fk_turn.specs.declared.turn_err.TurnErr.TheVariants.{Disk, NoMemory}
 use Rattle.fk_turn.specs.Daemon.{DaemonState, Scene, DaemonStands, AtRest, scene}
 use Rattle.fk_turn.specs.Rules.{HasRightCode, rules_by, permit_of}
-use Rattle.fk_turn.specs.Serving.{Serves, calls_for}
-use Rattle.fk_turn.specs.Parts.{answer_at, answering, Answers, AnswersWhole, FailsToRecord, WantsToAnswer, IsGrantedBy, IsDraftOf, IsLike, datagram_turn}
+use Rattle.fk_turn.specs.Serving.{calls_for}
+use Rattle.fk_turn.specs.Parts.{answer_at, answering, Answers, AnswersWhole, FailsToRecord, WantsToAnswer, IsGrantedBy, IsDraftOf, IsLike, datagram_turn, ServesPart}
 use Rattle.fk_child.proofs.Images.{adds-append, adds-change, calls-none, calls-then, calls-same}
 use Rattle.fk_log.proofs.Logged.{Logs-append}
 use Rattle.fk_turn.proofs.Logging.{logs-nothing}
@@ -78,7 +78,7 @@ refuses policy place moment source datagram why d h o0 o1 e rest adds line =
       stands = rest.stands.stands;
       number = rest.stands.number;
     } in
-    let serves : Serves policy.conf.now moment place (answering turn (Refuses why) []) (scene d h o0) s1 = record {
+    let serves : ServesPart policy.conf.now moment place (answering turn (Refuses why) []) (scene d h o0) s1 = record {
       adds = adds;
       disk = refl;
       logs = line;
@@ -88,7 +88,7 @@ refuses policy place moment source datagram why d h o0 o1 e rest adds line =
       opened = [];
       attempts = subst (λ (a : Answer). AttemptsThatOpen a []) (sym e) refl;
       calls = calls-same 0 (calls_for [] (recorded_by (answer_at policy place turn))) h h (ap (λ (a : Answer). calls_for [] (recorded_by a)) (sym e)) (calls-none h);
-      serves = subst (λ (a : Answer). Serves policy.conf.now moment place (answering turn a []) (scene d h o0) s1) (sym e) serves;
+      serves = subst (λ (a : Answer). ServesPart policy.conf.now moment place (answering turn a []) (scene d h o0) s1) (sym e) serves;
       settled = rest.settled;
     }
 
@@ -201,7 +201,7 @@ module _ (policy : Policy) (place : Place) (moment : ℕ) (source : Ip4) (datagr
             let s2 : Scene = scene (record { book = book; crew = crew; turns = d.turns }) h2 o2 in
             let lines : OpenedLine moment item.id opening begun ∷ [] ≡ attempt_lines moment (attempt ∷ []) =
             ap (λ (b : Bool). OpenedLine moment item.id opening b ∷ []) is ∙ sym (open-line moment item.id opening attempt.event tried) in
-            let serves : Serves policy.conf.now moment place (answering turn (Opens item permit) (attempt ∷ [])) (scene d h0 o0) s2 = record {
+            let serves : ServesPart policy.conf.now moment place (answering turn (Opens item permit) (attempt ∷ [])) (scene d h0 o0) s2 = record {
               adds = adds-append [] (attempt ∷ []) place.ledger (OpenChange item ∷ []) []
                   (record { attempts = inl refl; others = inr (tries-attempts (attempt ∷ []) ((Open item.id, opening, tried), tt)) }) true h0 h1 h2 adds1 faults goes.adds;
               disk = goes.disk ∙ faults;
@@ -221,7 +221,7 @@ module _ (policy : Policy) (place : Place) (moment : ℕ) (source : Ip4) (datagr
               calls = calls-same (4 + 1) (calls_for (attempt ∷ []) (recorded_by (answer_at policy place turn))) h0 h2
                   (ap (λ (a : Answer). calls_for (attempt ∷ []) (recorded_by a)) (sym opens)) (calls-then 4 1 h0 h1 h2 four goes.calls);
               attempts = subst (λ (a : Answer). AttemptsThatOpen a (attempt ∷ [])) (sym opens) (subst (λ (ws : List (List ℕ)). IsAttempt (Open item.id) ws attempt.event) words tried);
-              serves = subst (λ (a : Answer). Serves policy.conf.now moment place (answering turn a (attempt ∷ [])) (scene d h0 o0) s2) (sym opens) serves;
+              serves = subst (λ (a : Answer). ServesPart policy.conf.now moment place (answering turn a (attempt ∷ [])) (scene d h0 o0) s2) (sym opens) serves;
               settled = settled;
             }
 

@@ -20,8 +20,8 @@ use Rattle.fk_child.specs.View.{View, MakesCalls, Adds}
 use Rattle.fk_child.specs.Crew.{CrewState, CrewHost, StandsAt}
 use Rattle.fk_child.specs.Calls.{MarksTurn, PollsAll, SettlesFirst, FailsToSettle as FailsToSettleOne}
 use Rattle.fk_turn.specs.Daemon.{Scene, DaemonStands, StandsSomehow, AtRest, scene}
-use Rattle.fk_turn.specs.Serving.{Part, joined, reached, Serves, calls_for}
-use Rattle.fk_turn.specs.Parts.{end_line, beginning, BeginsTurn, settlement, SettlesWhole, FailsToSettle, Settles}
+use Rattle.fk_turn.specs.Serving.{calls_for}
+use Rattle.fk_turn.specs.Parts.{end_line, beginning, BeginsTurn, settlement, SettlesWhole, FailsToSettle, Settles, Part, joined, reached, ServesPart}
 use Rattle.fk_child.proofs.Images.{adds-append, calls-none, calls-then, calls-same}
 use Rattle.fk_turn.proofs.Places.{place-same, serves-join}
 use Rattle.fk_turn.proofs.Lines.{ends-lines}
@@ -81,7 +81,7 @@ nothing = record { items = []; changes = []; lines = [] }
 pub reached-nothing : (moment : ℕ) (place : Place) → place ≡ reached moment place nothing
 reached-nothing moment place = place-same place (reached moment place nothing) refl refl (sym (append-nil place.ledger)) refl
 
-pub serves-nothing : (conf : Conf) (moment : ℕ) (place : Place) (at : Scene) → DaemonStands conf at place → Adds [] place.ledger [] true at.host at.host → Serves conf moment place nothing at at
+pub serves-nothing : (conf : Conf) (moment : ℕ) (place : Place) (at : Scene) → DaemonStands conf at place → Adds [] place.ledger [] true at.host at.host → ServesPart conf moment place nothing at at
 serves-nothing conf moment place at h adds = record { adds = adds; disk = refl; logs = logs-nothing at.output; stands = subst (DaemonStands conf at) (reached-nothing moment place) h }
 
 -- the first of the records that are to be settled are, and the others are yet to be
@@ -89,7 +89,7 @@ pub record SettlesFront (conf : Conf) (moment : ℕ) (place : Place) (old new : 
   pub made : List ℕ
   pub order : old.daemon.crew.unsettled ≡ made ++ new.daemon.crew.unsettled
   pub calls : MakesCalls (calls_for [] (map Done made)) old.host new.host
-  pub serves : Serves conf moment place (settlement moment made) old new
+  pub serves : ServesPart conf moment place (settlement moment made) old new
 
 pub settles-none : (conf : Conf) (moment : ℕ) (place : Place) (at : Scene) → DaemonStands conf at place → Adds [] place.ledger [] true at.host at.host → SettlesFront conf moment place at at
 settles-none conf moment place at h adds = record { made = []; order = refl; calls = calls-none at.host; serves = serves-nothing conf moment place at h adds }
@@ -105,7 +105,7 @@ settles-more conf moment place s0 id turns book1 book2 c1 c2 h1 h2 o1 o2 front f
     let s2 : Scene = scene (record { book = book2; crew = c2; turns = turns }) h2 o2 in
     let at : Place = reached moment place (settlement moment front.made) in
     let stands1 : DaemonStands conf s1 at = front.serves.stands in
-    let step : Serves conf moment at (settlement moment (id ∷ [])) s1 s2 = record {
+    let step : ServesPart conf moment at (settlement moment (id ∷ [])) s1 s2 = record {
       adds = first.adds;
       disk = first.disk;
       logs = line;
@@ -124,7 +124,7 @@ settles-more conf moment place s0 id turns book1 book2 c1 c2 h1 h2 o1 o2 front f
       calls = calls-same (calls_for [] (map Done front.made) + 4) (calls_for [] (map Done (front.made ++ id ∷ []))) s0.host h2
           (let a = length-map front.made Done in let b = length-map (front.made ++ id ∷ []) Done in let d = length_push front.made id in omega (arith, a, b, d))
           (calls-then (calls_for [] (map Done front.made)) 4 s0.host h1 h2 front.calls first.calls);
-      serves = subst (λ (part : Part). Serves conf moment place part s0 s2)
+      serves = subst (λ (part : Part). ServesPart conf moment place part s0 s2)
           (part-same (joined (settlement moment front.made) (settlement moment (id ∷ []))) (settlement moment (front.made ++ id ∷ [])) refl
           (sym (map-append Done front.made (id ∷ []))) (sym (map-append (SettledLine moment) front.made (id ∷ []))))
           (serves-join conf moment place (settlement moment front.made) (settlement moment (id ∷ [])) s0 s1 s2 (record { attempts = inr tt; others = inr tt }) front.serves step);
@@ -136,7 +136,7 @@ settles-all conf moment place s0 s1 front none =
     let made : front.made ≡ s0.daemon.crew.unsettled = sym (front.order ∙ ap (λ (ids : List ℕ). front.made ++ ids) none ∙ append-nil front.made) in
     record {
       calls = subst (λ (ids : List ℕ). MakesCalls (calls_for [] (map Done ids)) s0.host s1.host) made front.calls;
-      serves = subst (λ (ids : List ℕ). Serves conf moment place (settlement moment ids) s0 s1) made front.serves;
+      serves = subst (λ (ids : List ℕ). ServesPart conf moment place (settlement moment ids) s0 s1) made front.serves;
       settled = none;
     }
 

@@ -5,8 +5,8 @@ use Rattle.fk_run.specs.Left.{MayStandBefore}
 use Rattle.fk_run.specs.Place.{Place}
 use Rattle.fk_conf.specs.declared.conf.Conf.{Conf}
 use Rattle.fk_child.specs.Crew.{CrewHost, StandsAt}
+use Rattle.fk_turn.specs.Parts.{Part, joined, reached, ServesPart}
 use Rattle.fk_turn.specs.Daemon.{DaemonState, Scene, DaemonStands}
-use Rattle.fk_turn.specs.Serving.{Part, joined, reached, Serves}
 use Rattle.fk_turn.proofs.Items.{ends_after-append}
 use Rattle.fk_child.proofs.Images.{adds-append}
 use Rattle.fk_log.proofs.Logged.{Logs-append}
@@ -24,7 +24,7 @@ reached-join moment place a b =
 -- parts that adjoin are one
 pub serves-join : (conf : Conf) (moment : ℕ) (place : Place) (a b : Part) (u v w : Scene)
     → MayStandBefore a.items a.changes b.items b.changes
-    → Serves conf moment place a u v → Serves conf moment (reached moment place a) b v w → Serves conf moment place (joined a b) u w
+    → ServesPart conf moment place a u v → ServesPart conf moment (reached moment place a) b v w → ServesPart conf moment place (joined a b) u w
 serves-join conf moment place a b u v w order first second = record {
   adds = adds-append a.items b.items place.ledger a.changes b.changes order true u.host v.host w.host first.adds first.disk second.adds;
   disk = second.disk ∙ first.disk;

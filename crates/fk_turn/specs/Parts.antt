@@ -22,7 +22,7 @@ use Rattle.fk_trace.specs.Decision.Answer.{Refuses, Opens}
 use Rattle.fk_trace.specs.Decision.Verdict.{Granted}
 use Rattle.fk_trace.specs.Settled.{settled_in}
 use Rattle.fk_trace.specs.Attempts.{PollsEachOnce, IsAttempt, AttemptsThatOpen}
-use Rattle.fk_run.specs.Place.{Place, behind}
+use Rattle.fk_run.specs.Place.{Place, behind, changed}
 use Rattle.fk_host.specs.Count.{counted}
 use Rattle.fk_log.specs.Line.{Line}
 use Rattle.fk_log.specs.Line.Line.{TurnLine, SettledLine, EndedLine, PollFailedLine}
@@ -40,9 +40,29 @@ use Rattle.fk_turn.specs.declared.policy.Policy.{Policy}
 use Rattle.fk_turn.specs.declared.turn_err.TurnErr.{TurnErr}
 use Rattle.fk_turn.specs.declared.turn_err.TurnErr.TheVariants.{Disk, NoMemory}
 use Rattle.fk_turn.specs.declared.decision.Draft.{Draft}
-use Rattle.fk_turn.specs.Daemon.{DaemonState, Scene}
+use Rattle.fk_turn.specs.Daemon.{DaemonState, DaemonStands, Scene}
 use Rattle.fk_turn.specs.Rules.{HasRightCode, rules_by, permit_of}
-use Rattle.fk_turn.specs.Serving.{Part, Serves, OwesItsLive, calls_for}
+use Rattle.fk_turn.specs.Serving.{OwesItsLive, calls_for}
+
+-- what a part of a turn adds to the trace, to the ledger and to the log
+pub record Part : Type 0 where
+  pub items : List Item
+  pub changes : List Change
+  pub lines : List Line
+
+abbrev pub joined : Part → Part → Part
+joined a b = record { items = a.items ++ b.items; changes = a.changes ++ b.changes; lines = a.lines ++ b.lines }
+
+-- the place behind a part of a turn with this moment
+abbrev pub reached : ℕ → Place → Part → Place
+reached moment place part = behind moment (changed place part.changes) part.items
+
+-- Such a part of a turn was served from the place. No call of the disk failed.
+pub record ServesPart (conf : Conf) (moment : ℕ) (place : Place) (part : Part) (old new : Scene) : Type 0 where
+  pub adds : Adds part.items place.ledger part.changes true old.host new.host
+  pub disk : new.host.faults ≡ old.host.faults
+  pub logs : Logs part.lines old.output new.output
+  pub stands : DaemonStands conf new (reached moment place part)
 
 -- the line of an end, or of a failed poll
 abbrev pub line_of_end : ℕ → Purpose → PollEnd → Line
@@ -68,7 +88,7 @@ pub record BeginsTurn (conf : Conf) (moment : ℕ) (place : Place) (old new : Sc
   pub begins : start.event ≡ Turn place.number
   pub polls : PollsEachOnce (start ∷ place.past) polled
   pub calls : MakesCalls (calls_for (start ∷ polled) []) old.host new.host
-  pub serves : Serves conf moment place (beginning moment place start polled) old new
+  pub serves : ServesPart conf moment place (beginning moment place start polled) old new
   pub unsettled : new.daemon.crew.unsettled ≡ settled_in (start ∷ place.past) polled
 
 -- what the settlement of these records adds
@@ -78,7 +98,7 @@ settlement moment ids = record { items = []; changes = map Done ids; lines = map
 -- all that was to be settled is
 pub record SettlesWhole (conf : Conf) (moment : ℕ) (place : Place) (old new : Scene) : Type 0 where
   pub calls : MakesCalls (calls_for [] (map Done old.daemon.crew.unsettled)) old.host new.host
-  pub serves : Serves conf moment place (settlement moment old.daemon.crew.unsettled) old new
+  pub serves : ServesPart conf moment place (settlement moment old.daemon.crew.unsettled) old new
   pub settled : new.daemon.crew.unsettled ≡ []
 
 -- the disk failed while a record was settled, behind those before it
@@ -114,7 +134,7 @@ pub record AnswersWhole (policy : Policy) (place : Place) (turn : FeedTurn) (old
   pub opened : List Item
   pub attempts : AttemptsThatOpen (answer_at policy place turn) opened
   pub calls : MakesCalls (calls_for opened (recorded_by (answer_at policy place turn))) old.host new.host
-  pub serves : Serves policy.conf.now turn.moment place (answering turn (answer_at policy place turn) opened) old new
+  pub serves : ServesPart policy.conf.now turn.moment place (answering turn (answer_at policy place turn) opened) old new
   pub settled : new.daemon.crew.unsettled ≡ []
 
 -- the disk failed while the record was made
@@ -167,7 +187,7 @@ pub record AttemptsCloses (further : ℕ) (conf : Conf) (moment : ℕ) (place : 
   pub closed : List Item
   pub calls : MakesCalls (length closed + further) old.host new.host
   pub attempts : AttemptsNext moment place closed
-  pub serves : Serves conf moment place (closing_part moment closed) old new
+  pub serves : ServesPart conf moment place (closing_part moment closed) old new
   pub settled : new.daemon.crew.unsettled ≡ []
 
 -- they are all that are due, or memory was wanting in the host's start of another one

@@ -22,9 +22,9 @@ use Rattle.fk_admit.specs.declared.refusal.Refusal.TheVariants as refusal
 use Rattle.fk_admit.specs.Admit.{admitted, blocks_in_all, refusal_of_shape}
 use Rattle.fk_admit.specs.Arrival.{arrival}
 use Rattle.fk_ledger.specs.Book.{has_room}
-use Rattle.fk_turn.specs.declared.arrival.Arrival.{Arrival}
-use Rattle.fk_turn.specs.declared.arrival.Brought.{Brought}
-use Rattle.fk_turn.specs.declared.arrival.Brought.TheVariants.{Quiet, Datagram}
+use Rattle.fk_turn.specs.declared.feed_turn.FeedTurn.{FeedTurn as GivenTurn}
+use Rattle.fk_turn.specs.declared.feed_turn.FeedInput.{FeedInput}
+use Rattle.fk_turn.specs.declared.feed_turn.FeedInput.TheVariants.{Quiet, Datagram}
 use Rattle.fk_turn.specs.declared.policy.Policy.{Policy}
 
 -- why a datagram is not admitted, as the log says it
@@ -84,13 +84,13 @@ rules_of conf stanzas = record {
 abbrev pub rules_by : Policy → Rules
 rules_by policy = rules_of policy.conf.now policy.access.now
 
-abbrev pub input_of : Brought → Input
+abbrev pub input_of : FeedInput → Input
 input_of Quiet = QuietInput
 input_of (Datagram source bytes) = DatagramInput source bytes.now
 
 -- a turn, as a run takes it
-abbrev pub turn_of : Arrival → FeedTurn
-turn_of arrival = record { moment = arrival.moment; input = input_of arrival.brought }
+abbrev pub turn_of : GivenTurn → FeedTurn
+turn_of turn = record { moment = turn.moment; input = input_of turn.input }
 
 -- the datagram has the HMAC of a stanza that serves its source; as one that is granted has, too
 abbrev pub HasRightCode : Policy → ℕ → Ip4 → List ℕ → Type 0

@@ -7,7 +7,7 @@ use Rattle.fk_trace.specs.declared.change.Change.TheVariants.{Done}
 use Rattle.fk_trace.specs.Ledger.{after, opens, dones}
 use Rattle.fk_trace.specs.Settled.{settlements}
 use Rattle.fk_trace.specs.Decision.{FeedTurn}
-use Rattle.fk_run.specs.Place.{Place, behind, changed}
+use Rattle.fk_run.specs.Place.{Place}
 use Rattle.fk_run.specs.Turn.{TakenTurn, WholeTurn, CutTurn, after_turn}
 use Rattle.fk_run.specs.Planned.{planned_turn}
 use Rattle.fk_run.specs.Run.Ending.{AtWantOfMemory}
@@ -21,25 +21,12 @@ use Rattle.fk_log.specs.Writing.{Logs}
 use Rattle.fk_conf.specs.declared.conf.Conf.{Conf}
 use Rattle.fk_ledger.specs.Book.{live_ids}
 use Rattle.fk_child.specs.View.{MakesCalls, Adds}
-use Rattle.fk_turn.specs.declared.arrival.Arrival.{Arrival}
+use Rattle.fk_turn.specs.declared.feed_turn.FeedTurn.{FeedTurn as GivenTurn}
 use Rattle.fk_turn.specs.declared.policy.Policy.{Policy}
 use Rattle.fk_turn.specs.declared.turn_err.TurnErr.{TurnErr}
 use Rattle.fk_turn.specs.declared.turn_err.TurnErr.TheVariants.{Disk, NoMemory}
 use Rattle.fk_turn.specs.Daemon.{DaemonState, Scene, DaemonStands, AtRest}
 use Rattle.fk_turn.specs.Rules.{BringsRightCode, rules_by, turn_of}
-
--- what a part of a turn adds to the trace, to the ledger and to the log
-pub record Part : Type 0 where
-  pub items : List Item
-  pub changes : List Change
-  pub lines : List Line
-
-abbrev pub joined : Part → Part → Part
-joined a b = record { items = a.items ++ b.items; changes = a.changes ++ b.changes; lines = a.lines ++ b.lines }
-
--- the place behind a part of a turn with this moment
-abbrev pub reached : ℕ → Place → Part → Place
-reached moment place part = behind moment (changed place part.changes) part.items
 
 -- how many calls of the host bring these items and make these changes: one for each item, and four for each change
 abbrev pub calls_for : List Item → List Change → ℕ
@@ -49,13 +36,6 @@ calls_for items changes = length items + 4 * length changes
 abbrev pub BeginsAt : ℕ → List Item → Type 0
 BeginsAt moment [] = ⊥
 BeginsAt moment (start ∷ items) = start.moments ≡ moment
-
--- Such a part of a turn was served from the place. No call of the disk failed.
-pub record Serves (conf : Conf) (moment : ℕ) (place : Place) (part : Part) (old new : Scene) : Type 0 where
-  pub adds : Adds part.items place.ledger part.changes true old.host new.host
-  pub disk : new.host.faults ≡ old.host.faults
-  pub logs : Logs part.lines old.output new.output
-  pub stands : DaemonStands conf new (reached moment place part)
 
 -- the daemon holds one obligation for each live record of its ledger, so that it can be parked
 abbrev pub OwesItsLive : DaemonState → Type 0
@@ -124,5 +104,5 @@ ServesTurn policy place turn old new (Err Disk) = FailsAtDisk policy place turn 
 ServesTurn policy place turn old new (Err NoMemory) = WantsMemory policy place turn old new
 
 -- from each place where the daemon was at rest, the turn was served so
-abbrev pub TakesTurn : {T : Type 0} → Policy → Arrival → Result T TurnErr → Scene → Scene → Type 0
-TakesTurn policy arrival result old new = (place : Place) → AtRest policy.conf.now old place → ServesTurn policy place (turn_of arrival) old new result
+abbrev pub TakesTurn : {T : Type 0} → Policy → GivenTurn → Result T TurnErr → Scene → Scene → Type 0
+TakesTurn policy turn result old new = (place : Place) → AtRest policy.conf.now old place → ServesTurn policy place (turn_of turn) old new result

@@ -20,7 +20,7 @@ ghost use Rattle.fk_turn.specs.Rules.{turn_of};
 
 use crate::beginning::tell_ends;
 use crate::decision::{Decision, Draft, decide, make_draft};
-use crate::{Arrival, Brought, Policy, TurnErr};
+use crate::{FeedInput, FeedTurn, Policy, TurnErr};
 use fk_base::{Failed, Grant, Ip4, Moment, NoMemory};
 use fk_child::{Crew, Tried};
 use fk_host::{Host, Sink};
@@ -83,7 +83,7 @@ impl Daemon {
     pub fn serve<H: Host, K: Sink>(
         &mut self,
         policy: &Policy<'_>,
-        arrival: &Arrival<'_>,
+        turn: &FeedTurn<'_>,
         host: &mut H,
         log: &mut LogWriter,
         out: &mut K,
@@ -92,14 +92,14 @@ impl Daemon {
             Rests policy.now.conf.now (at self.old host.old log.old out.old) }
         requires fits { self.old.turns < 2 ^ 63 }
         ensures serves { let at = scene_by H.Disk K.Sink in
-            TakesTurn policy.now arrival.now result (at self.old host.old log.old out.old) (at self.new host.new log.new out.new) }
+            TakesTurn policy.now turn.now result (at self.old host.old log.old out.old) (at self.new host.new log.new out.new) }
     {
-        self.begin(arrival.moment, host, log, out);
-        if let Err(Failed) = self.settle(arrival.moment, host, log, out) {
+        self.begin(turn.moment, host, log, out);
+        if let Err(Failed) = self.settle(turn.moment, host, log, out) {
             return Err(TurnErr::Disk);
         }
-        self.answer(policy, arrival, host, log, out)?;
-        self.close(arrival.moment, host, log, out)?;
+        self.answer(policy, turn, host, log, out)?;
+        self.close(turn.moment, host, log, out)?;
         self.turns += 1;
         Ok(())
     }
@@ -163,7 +163,7 @@ impl Daemon {
     fn answer<H: Host, K: Sink>(
         &mut self,
         policy: &Policy<'_>,
-        arrival: &Arrival<'_>,
+        turn: &FeedTurn<'_>,
         host: &mut H,
         log: &mut LogWriter,
         out: &mut K,
@@ -172,12 +172,12 @@ impl Daemon {
             Rests policy.now.conf.now (at self.old host.old log.old out.old) }
         ensures { let at = scene_by H.Disk K.Sink in
             (place : Place) → AtRest policy.now.conf.now (at self.old host.old log.old out.old) place
-            → Answers policy.now place (turn_of arrival.now) (at self.old host.old log.old out.old) (at self.new host.new log.new out.new) result }
+            → Answers policy.now place (turn_of turn.now) (at self.old host.old log.old out.old) (at self.new host.new log.new out.new) result }
     {
-        match arrival.brought {
-            Brought::Quiet => Ok(()),
-            Brought::Datagram { source, bytes } => {
-                self.answer_datagram(policy, arrival.moment, source, bytes, host, log, out)
+        match turn.input {
+            FeedInput::Quiet => Ok(()),
+            FeedInput::Datagram { source, bytes } => {
+                self.answer_datagram(policy, turn.moment, source, bytes, host, log, out)
             }
         }
     }

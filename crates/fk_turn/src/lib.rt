@@ -6,16 +6,16 @@
 //! Start at `daemon`; `specs/Daemon.antt` says where a daemon stands, and `specs/Serving.antt` what serving a turn does.
 #![tactic(auto)]
 
-mod arrival;
 mod beginning;
 mod daemon;
 mod decision;
+mod feed_turn;
 mod policy;
 #[cfg(test)]
 mod tests;
 mod turn_err;
 
-pub use arrival::{Arrival, Brought};
 pub use daemon::Daemon;
+pub use feed_turn::{FeedInput, FeedTurn};
 pub use policy::Policy;
 pub use turn_err::TurnErr;

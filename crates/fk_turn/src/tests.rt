@@ -3,7 +3,7 @@ ghost use Rattle.std.specs.Prelude.{◌≡◌, ◌≤◌, length};
 ghost use Rattle.fk_child.specs.View.{view_of};
 ghost use Rattle.fk_turn.specs.Daemon.{Rests, scene_by, output_by};
 
-use crate::{Arrival, Brought, Daemon, Policy, TurnErr};
+use crate::{Daemon, FeedInput, FeedTurn, Policy, TurnErr};
 use fk_access::read_access;
 use fk_base::{Ip4, Moment};
 use fk_conf::read_conf;
@@ -31,7 +31,7 @@ fn packet() -> &'static [u8] {
 fn serve_each<H: Host, K: Sink>(
     daemon: Daemon,
     policy: &Policy<'_>,
-    arrivals: &[Arrival<'_>],
+    turns: &[FeedTurn<'_>],
     host: &mut H,
     log: &mut LogWriter,
     out: &mut K,
@@ -39,12 +39,12 @@ fn serve_each<H: Host, K: Sink>(
     requires rests { let at = scene_by H.Disk K.Sink in
         Rests policy.now.conf.now (at daemon host.old log.old out.old) }
     requires first { daemon.turns ≡ 0 }
-    requires few { length arrivals.now ≤ 100 }
+    requires few { length turns.now ≤ 100 }
 {
     let mut daemon = daemon;
     let mut number = 0;
-    while number < arrivals.len() {
-        if let Err(err) = daemon.serve(policy, &arrivals[number], host, log, out) {
+    while number < turns.len() {
+        if let Err(err) = daemon.serve(policy, &turns[number], host, log, out) {
             daemon.park();
             return Err(err);
         }
@@ -57,10 +57,10 @@ fn serve_each<H: Host, K: Sink>(
 fn run<R: Abort, K: Sink>(
     rt: &R,
     alloc: Global,
-    arrivals: &[Arrival<'_>],
+    turns: &[FeedTurn<'_>],
     out: &mut K,
 ) -> Result<(), TurnErr>
-    requires { length arrivals.now ≤ 100 }
+    requires { length turns.now ≤ 100 }
 {
     let Ok(conf) = read_conf(b"") else {
         panic!(rt; "the configuration is not read")
@@ -81,7 +81,7 @@ fn run<R: Abort, K: Sink>(
         Err(_) => panic!(rt; "the daemon does not resume"),
     };
     let mut log = LogWriter::new(Verbosity::Verbose);
-    serve_each(daemon, &policy, arrivals, &mut host, &mut log, out)
+    serve_each(daemon, &policy, turns, &mut host, &mut log, out)
 }
 
 #[test]
@@ -94,32 +94,32 @@ fn turns_are_served(rt: HostRuntime) -> Result<(), Fail> {
         Moment::new(1_700_000_031).ok_or("past the greatest moment")?,
     ];
     let bytes = packet();
-    let datagram = Brought::Datagram {
+    let datagram = FeedInput::Datagram {
         source: NEAR,
         bytes,
     };
-    let arrivals = [
-        Arrival {
+    let turns = [
+        FeedTurn {
             moment: at[0],
-            brought: datagram,
+            input: datagram,
         },
-        Arrival {
+        FeedTurn {
             moment: at[1],
-            brought: datagram,
+            input: datagram,
         },
-        Arrival {
+        FeedTurn {
             moment: at[2],
-            brought: Brought::Quiet,
+            input: FeedInput::Quiet,
         },
-        Arrival {
+        FeedTurn {
             moment: at[3],
-            brought: Brought::Datagram {
+            input: FeedInput::Datagram {
                 source: NEAR,
                 bytes: b"short",
             },
         },
     ];
-    assert_eq!(rt; run(&rt, rt.alloc(), &arrivals, &mut out), Ok(()));
+    assert_eq!(rt; run(&rt, rt.alloc(), &turns, &mut out), Ok(()));
     let wanted = b"1700000000 turn 1\n\
         1700000000 from 10.0.0.7 granted 1 stanza 1 until 1700000030\n\
         1700000000 open 1 /bin/o 10.0.0.7 tcp/22\n\

@@ -3,7 +3,7 @@ use Rattle.fk_trace.specs.Decision.{FeedTurn}
 use Rattle.fk_log.specs.Writing.{Output}
 use Rattle.fk_child.specs.View.{view_of}
 use Rattle.fk_child.proofs.Images.{adds-none}
-use Rattle.fk_turn.specs.declared.arrival.Brought.{Brought}
+use Rattle.fk_turn.specs.declared.feed_turn.FeedInput.{FeedInput}
 use Rattle.fk_turn.specs.Daemon.{Scene, scene, output_by}
 use Rattle.fk_turn.specs.Parts.{Answers, AnswersWhole}
 use Rattle.fk_turn.specs.Rules.{input_of}
@@ -17,8 +17,8 @@ returns-in-Quiet g c =
     let s : Scene = scene c.args.self.now (view c.args.host.now) o0 in
     λ place rest.
     subst (λ (t : FeedTurn). AnswersWhole c.args.policy.now place t s s)
-    (ap (λ (b : Brought). record { moment = c.args.arrival.now.moment; input = input_of b }) (sym c.in-Quiet.is))
-    (quietly c.args.policy.now place c.args.arrival.now.moment c.args.self.now (view c.args.host.now) o0 rest (adds-none place.ledger (view c.args.host.now) rest.stands.stands.keeps))
+    (ap (λ (b : FeedInput). record { moment = c.args.turn.now.moment; input = input_of b }) (sym c.in-Quiet.is))
+    (quietly c.args.policy.now place c.args.turn.now.moment c.args.self.now (view c.args.host.now) o0 rest (adds-none place.ledger (view c.args.host.now) rest.stands.stands.keeps))
 
 pub returns-in-Datagram : goal.returns-in-Datagram
 returns-in-Datagram g c =
@@ -28,4 +28,4 @@ returns-in-Datagram g c =
     let new : Scene = scene c.answer_datagram.new.self (view c.answer_datagram.new.host) (out c.answer_datagram.new.log c.answer_datagram.new.out) in
     λ place rest.
     subst (λ (t : FeedTurn). Answers c.args.policy.now place t old new c.answer_datagram.result)
-    (ap (λ (b : Brought). record { moment = c.args.arrival.now.moment; input = input_of b }) (sym c.in-Datagram.is)) (c.answer_datagram.ensures place rest)
+    (ap (λ (b : FeedInput). record { moment = c.args.turn.now.moment; input = input_of b }) (sym c.in-Datagram.is)) (c.answer_datagram.ensures place rest)

@@ -11,12 +11,12 @@ use Rattle.fk_turn.proofs.daemon.Daemon.serve.Goals as goal
 pub settle-requires : goal.settle-requires
 settle-requires g c =
     let b = c.begin.ensures c.args.policy.now.conf.now c.requires.rests.0 c.requires.rests.1 in
-    let turn : FeedTurn = turn_of c.args.arrival.now in
+    let turn : FeedTurn = turn_of c.args.turn.now in
     (c.args.policy.now.conf.now, polled_place c.args.policy.now c.requires.rests.0 turn _ _ b, begun-stands c.args.policy.now c.requires.rests.0 turn _ _ b)
 
 pub returns-in-Err : goal.returns-in-Err
 returns-in-Err g c =
-    let turn : FeedTurn = turn_of c.args.arrival.now in
+    let turn : FeedTurn = turn_of c.args.turn.now in
     record {
       serves = λ place rest.
           let b = c.begin.ensures c.args.policy.now.conf.now place rest in
@@ -27,7 +27,7 @@ returns-in-Err g c =
 pub answer-requires : goal.answer-requires
 answer-requires g c =
     let place : Place = c.requires.rests.0 in
-    let turn : FeedTurn = turn_of c.args.arrival.now in
+    let turn : FeedTurn = turn_of c.args.turn.now in
     let b = c.begin.ensures c.args.policy.now.conf.now place c.requires.rests.1 in
     let settles = c.in_default.ensures c.args.policy.now.conf.now (polled_place c.args.policy.now place turn _ _ b) (begun-stands c.args.policy.now place turn _ _ b) in
     (answer_place c.args.policy.now place turn _ _ b, settled-stands c.args.policy.now place turn _ _ b _ settles)
@@ -35,7 +35,7 @@ answer-requires g c =
 pub close-requires : goal.close-requires
 close-requires g c =
     let place : Place = c.requires.rests.0 in
-    let turn : FeedTurn = turn_of c.args.arrival.now in
+    let turn : FeedTurn = turn_of c.args.turn.now in
     let b = c.begin.ensures c.args.policy.now.conf.now place c.requires.rests.1 in
     let settles = c.in_default.ensures c.args.policy.now.conf.now (polled_place c.args.policy.now place turn _ _ b) (begun-stands c.args.policy.now place turn _ _ b) in
     let a = c.in_ok-answer.ensures (answer_place c.args.policy.now place turn _ _ b) (settled-stands c.args.policy.now place turn _ _ b _ settles) in
@@ -43,7 +43,7 @@ close-requires g c =
 
 pub returns-in_err-answer : goal.returns-in_err-answer
 returns-in_err-answer g c =
-    let turn : FeedTurn = turn_of c.args.arrival.now in
+    let turn : FeedTurn = turn_of c.args.turn.now in
     record {
       serves = λ place rest.
           let b = c.begin.ensures c.args.policy.now.conf.now place rest in
@@ -54,7 +54,7 @@ returns-in_err-answer g c =
 
 pub returns-in_err-close : goal.returns-in_err-close
 returns-in_err-close g c =
-    let turn : FeedTurn = turn_of c.args.arrival.now in
+    let turn : FeedTurn = turn_of c.args.turn.now in
     record {
       serves = λ place rest.
           let b = c.begin.ensures c.args.policy.now.conf.now place rest in
@@ -68,7 +68,7 @@ returns-in_err-close g c =
 pub overflow_add-self : goal.overflow_add-self
 overflow_add-self g c =
     let place : Place = c.requires.rests.0 in
-    let turn : FeedTurn = turn_of c.args.arrival.now in
+    let turn : FeedTurn = turn_of c.args.turn.now in
     let b = c.begin.ensures c.args.policy.now.conf.now place c.requires.rests.1 in
     let settles = c.in_default.ensures c.args.policy.now.conf.now (polled_place c.args.policy.now place turn _ _ b) (begun-stands c.args.policy.now place turn _ _ b) in
     let a = c.in_ok-answer.ensures (answer_place c.args.policy.now place turn _ _ b) (settled-stands c.args.policy.now place turn _ _ b _ settles) in
@@ -83,7 +83,7 @@ pub returns : goal.returns
 returns g c =
     let view = view_of g.H.Disk in
     let out = output_by g.K.Sink in
-    let turn : FeedTurn = turn_of c.args.arrival.now in
+    let turn : FeedTurn = turn_of c.args.turn.now in
     let old : Scene = scene_by g.H.Disk g.K.Sink c.args.self.now c.args.host.now c.args.log.now c.args.out.now in
     record {
       serves = λ place rest.

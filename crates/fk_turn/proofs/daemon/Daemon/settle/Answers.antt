@@ -9,8 +9,7 @@ use Rattle.fk_child.proofs.Images.{adds-none}
 use Rattle.fk_child.specs.Crew.{CrewState, CrewHost}
 use Rattle.fk_child.specs.Calls.{SettlesNext}
 use Rattle.fk_turn.specs.Daemon.{DaemonState, Scene, scene, DaemonStands, StandsSomehow, scene_by, output_by}
-use Rattle.fk_turn.specs.Serving.{reached}
-use Rattle.fk_turn.specs.Parts.{settlement, Settles, SettlesWhole}
+use Rattle.fk_turn.specs.Parts.{settlement, Settles, SettlesWhole, reached}
 use Rattle.fk_turn.specs.contracts.daemon.Daemon.{the_view}
 use Rattle.fk_turn.proofs.Parting.{crew_host, settling-stands, settles-none, settles-next, settles-all, fewer-unsettled, fails-settle, failing}
 use Rattle.fk_turn.proofs.daemon.Daemon.settle.Goals as goal

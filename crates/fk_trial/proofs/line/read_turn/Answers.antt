@@ -1,6 +1,6 @@
 use Rattle.fk_base.specs.Address.{ip_text}
 use Rattle.fk_trial.proofs.TurnLines.{failed_read, no_turn_uncut, no_turn_cut, no_turn_cut_twice, uncut}
-use Rattle.fk_trial.proofs.line.read_arrival.Goals as goal
+use Rattle.fk_trial.proofs.line.read_turn.Goals as goal
 
 pub returns-in_err-moment-in-None-clause-none : goal.returns-in_err-moment-in-None-clause-none
 returns-in_err-moment-in-None-clause-none c = rw c.from_residual.ensures
