@@ -22,7 +22,7 @@ use Rattle.fk_program.proofs.Saying.{said-once}
 use Rattle.fk_client.specs.Faults.Fault.{Common, LacksSetting, EntropyFails, LinkFails}
 use Rattle.fk_program.specs.Faults.Fault.{WantsMemory}
 use Rattle.fk_client.specs.Outside.{EntropyView, LinkView, Outside, undrawn}
-use Rattle.fk_client.specs.Running.{rc_test, Delivers, FailsToSettle, MakesKeys, OnlyPrints, RunsClient, RunsSend, Runs, SendsBy, SendsPacket}
+use Rattle.fk_client.specs.Running.{rc_test, Delivers, FindsNoSettings, MakesKeys, OnlyPrints, RunsClient, RunsSend, Runs, SendsBy, SendsPacket}
 
 -- the output's count after a fault was told
 told-sink : (fault : Fault) (old new : SinkView) → Says (fault_text fault) old new → FailsSink (fault_status fault) old.faults new.faults
@@ -81,7 +81,7 @@ word-counts fault old new only = record {
 }
 
 -- there were no settings
-settle-counts : (send : SendWords) (fault : Fault) (old new : Outside) → FailsToSettle send fault old.files new.files → new.entropy ≡ old.entropy → new.link ≡ old.link
+settle-counts : (send : SendWords) (fault : Fault) (old new : Outside) → FindsNoSettings send fault old.files new.files → new.entropy ≡ old.entropy → new.link ≡ old.link
     → CountsOf fault old new
 settle-counts send (Common fault) old new fails entropy link = record {
   files = file-count (rc_test send.file) send.file fault old.files new.files fails;

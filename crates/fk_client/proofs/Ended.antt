@@ -29,7 +29,7 @@ use Rattle.fk_client.specs.Faults.Fault.{Common, LacksSetting, EntropyFails, Lin
 use Rattle.fk_program.specs.Faults.Fault.{WrongWords, FileNotHeld, FileNotRead, WrongFile, WantsMemory}
 use Rattle.fk_client.specs.Outside.{Outside}
 use Rattle.fk_client.specs.Ready.{CountsNone, EndsAs, IsReadyFor, IsReadyToSend, IsWrongText, MeetsNoFault, NamesNoFile, NamesWrongFile}
-use Rattle.fk_client.specs.Running.{Delivers, FailsToSettle, HasSettings, MakesKeys, RunsClient, RunsSend, Runs, SendsBy}
+use Rattle.fk_client.specs.Running.{Delivers, FindsNoSettings, HasSettings, MakesKeys, RunsClient, RunsSend, Runs, SendsBy}
 use Rattle.fk_client.specs.Settle.{need_fault}
 use Rattle.fk_conf.specs.CommandOf.{AskAlike, SaysSame}
 use Rattle.fk_client.proofs.Needs.{needs-same}
@@ -81,7 +81,7 @@ none-told f None fault is told = cc
 none-told f (Some x) fault is told = cc
 
 -- no fault of what is read is told
-settles-ends : (send asked : SendWords) (fault : Fault) (old new : FilesView) → SaysSame send asked → IsReadyToSend asked old → FailsToSettle send fault old new
+settles-ends : (send asked : SendWords) (fault : Fault) (old new : FilesView) → SaysSame send asked → IsReadyToSend asked old → FindsNoSettings send fault old new
     → IsCalm (fault_status fault) → EndsAs status.Done (fault_status fault)
 settles-ends send asked (Common (FileNotHeld name)) old new same ready fails calm = absurd (calm.files refl)
 settles-ends send asked (Common (FileNotRead name)) old new same ready fails calm = absurd (calm.files refl)
@@ -179,7 +179,7 @@ no-usage-printed : (is_broken : Bool) (answer : Status) → answer ≡ printed_s
 no-usage-printed false answer is = λ usage. cc
 no-usage-printed true answer is = λ usage. cc
 
-no-usage-settled : (send : SendWords) (fault : Fault) (old new : FilesView) → FailsToSettle send fault old new → fault_status fault ≢ status.Usage
+no-usage-settled : (send : SendWords) (fault : Fault) (old new : FilesView) → FindsNoSettings send fault old new → fault_status fault ≢ status.Usage
 no-usage-settled send (Common (FileNotHeld name)) old new fails = λ usage. cc
 no-usage-settled send (Common (FileNotRead name)) old new fails = λ usage. cc
 no-usage-settled send (Common (WrongFile name line what)) old new fails = λ usage. cc
@@ -273,7 +273,7 @@ not-held name other text (Some held) names missing told =
     absurd cc
 
 missing-ends : (send asked : SendWords) (fault : Fault) (old new : FilesView) → SaysSame send asked → IsSomeAnd old.held (λ held. bytes_of_file asked.file held ≡ None)
-    → FailsToSettle send fault old new → EndsAs status.FileFault (fault_status fault)
+    → FindsNoSettings send fault old new → EndsAs status.FileFault (fault_status fault)
 missing-ends send asked (Common (FileNotHeld name)) old new same missing fails = inl refl
 missing-ends send asked (Common (FileNotRead name)) old new same missing fails = inl refl
 missing-ends send asked (Common (WrongFile name line what)) old new same missing fails =
@@ -285,7 +285,7 @@ missing-ends send asked (Common (WrongWords why)) old new same missing fails = a
 missing-ends send asked EntropyFails old new same missing fails = absurd fails
 missing-ends send asked LinkFails old new same missing fails = absurd fails
 
-wrong-ends : (send asked : SendWords) (fault : Fault) (old new : FilesView) → (Rose old.faults new.faults → ⊥) → FailsToSettle send fault old new
+wrong-ends : (send asked : SendWords) (fault : Fault) (old new : FilesView) → (Rose old.faults new.faults → ⊥) → FindsNoSettings send fault old new
     → EndsAs status.Config (fault_status fault)
 wrong-ends send asked (Common (FileNotHeld name)) old new calm fails = absurd (calm (rose old.faults new.faults (ap (λ (files : FilesView). files.faults) fails.1)))
 wrong-ends send asked (Common (FileNotRead name)) old new calm fails = absurd (calm (rose old.faults new.faults (ap (λ (files : FilesView). files.faults) fails.1)))

@@ -13,7 +13,7 @@ use Rattle.fk_conf.specs.RcFault.{rc_stanzas}
 use Rattle.fk_conf.specs.declared.command.SendWords.{SendWords}
 use Rattle.fk_conf.specs.declared.rc_stanza.RcStanza.{RcStanza}
 use Rattle.fk_client.specs.declared.need_fault.NeedFault.TheVariants.{NoStanza, NoServer, NoAccess, NoAllow, NoKey, NoHmacKey}
-use Rattle.fk_client.specs.Settle.{address_of, from_file, given_by, need_fault, pairs_of, server_of, stanza_named}
+use Rattle.fk_client.specs.Settle.{address_of, from_file, from_stanza, need_fault, pairs_of, server_of, stanza_named}
 use Rattle.fk_conf.specs.CommandOf.{SaysSame}
 
 -- what is needed of a stanza
@@ -70,7 +70,7 @@ some-plain None = refl
 some-plain (Some s) = refl
 
 given-same : {X : Type 0} (f : Plain → Option X) (x y : List RcStanza) (m n : List ℕ) → map plain x ≡ map plain y → m ≡ n
-    → given_by (λ s. f (plain s)) x m ≡ given_by (λ s. f (plain s)) y n
+    → from_stanza (λ s. f (plain s)) x m ≡ from_stanza (λ s. f (plain s)) y n
 given-same f x y m n files names =
     then-plain f (stanza_named m x)
     ∙ ap (option_and_then f) (found-plain m x ∙ ap (plain_named m) files ∙ ap (λ (name : List ℕ). plain_named name (map plain y)) names ∙ sym (found-plain n y))
@@ -79,8 +79,8 @@ given-same f x y m n files names =
 from-same : {X : Type 0} (f : Plain → Option X) (x y : List RcStanza) (a b : SendWords) → map plain x ≡ map plain y → a.name ≡ b.name
     → from_file (λ s. f (plain s)) x a ≡ from_file (λ s. f (plain s)) y b
 from-same f x y a b files names =
-    ap (λ o. option_or o (given_by (λ s. f (plain s)) x (codes "default"))) (given-same f x y a.name b.name files names)
-    ∙ ap (λ o. option_or (given_by (λ s. f (plain s)) y b.name) o) (given-same f x y (codes "default") (codes "default") files refl)
+    ap (λ o. option_or o (from_stanza (λ s. f (plain s)) x (codes "default"))) (given-same f x y a.name b.name files names)
+    ∙ ap (λ o. option_or (from_stanza (λ s. f (plain s)) y b.name) o) (given-same f x y (codes "default") (codes "default") files refl)
 
 named-same : (x y : List RcStanza) (m n : List ℕ) → map plain x ≡ map plain y → m ≡ n → is_some (stanza_named m x) ≡ is_some (stanza_named n y)
 named-same x y m n files names =

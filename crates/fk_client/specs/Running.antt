@@ -28,7 +28,7 @@ use Rattle.fk_program.specs.Faults.Fault.{WrongFile, WantsMemory}
 use Rattle.fk_program.specs.Files.{FailsFile, FilesView, HasText}
 use Rattle.fk_program.specs.Telling.{Shows}
 use Rattle.fk_client.specs.Sent.{IsSent}
-use Rattle.fk_client.specs.Settle.{Settles, need_fault}
+use Rattle.fk_client.specs.Settle.{GivesSettings, need_fault}
 
 -- the file of this name has these stanzas
 pub record HasStanzas (name : List ℕ) (files : FilesView) (stanzas : List RcStanza) : Type 0 where
@@ -44,7 +44,7 @@ rc_test name text = option_map (λ found. WrongFile name found.0 (conf_fault_nam
 pub record HasSettings (send : SendWords) (files : FilesView) (settings : Settings) : Type 0 where
   pub stanzas : List RcStanza
   pub read : HasStanzas send.file files stanzas
-  pub settles : Settles stanzas send settings
+  pub settles : GivesSettings stanzas send settings
 
 -- the first thing that the words and their file lack
 pub record LacksNeed (send : SendWords) (files : FilesView) (what : List ℕ) : Type 0 where
@@ -55,10 +55,10 @@ pub record LacksNeed (send : SendWords) (files : FilesView) (what : List ℕ) : 
   pub named : what ≡ need_name fault
 
 -- why there are no settings: the file has no stanzas, or something is needed that it does not give
-abbrev pub FailsToSettle : SendWords → Fault → FilesView → FilesView → Type 0
-FailsToSettle send (Common fault) old new = FailsFile (rc_test send.file) send.file fault old new
-FailsToSettle send (LacksSetting named what) old new = (named ≡ send.file) × (new ≡ old) × LacksNeed send old what
-FailsToSettle send _ old new = ⊥
+abbrev pub FindsNoSettings : SendWords → Fault → FilesView → FilesView → Type 0
+FindsNoSettings send (Common fault) old new = FailsFile (rc_test send.file) send.file fault old new
+FindsNoSettings send (LacksSetting named what) old new = (named ≡ send.file) × (new ≡ old) × LacksNeed send old what
+FindsNoSettings send _ old new = ⊥
 
 -- so many bytes were drawn
 pub record Draws (count : ℕ) (drawn : List ℕ) (old new : EntropyView) : Type 0 where
@@ -123,7 +123,7 @@ SendsBy is_shown settings moment old new answer =
 -- what comes of words that ask for a packet: there are no settings for a fault that is told, or there are these
 abbrev pub RunsSend : SendWords → ℕ → Outside → Outside → Status → Type 0
 RunsSend send moment old new answer =
-    ((fault : Fault) × FailsToSettle send fault old.files new.files × MeetsFault fault old new answer)
+    ((fault : Fault) × FindsNoSettings send fault old.files new.files × MeetsFault fault old new answer)
     ⊎ ((settings : Settings) × HasSettings send old.files settings × (new.files ≡ old.files) × SendsBy send.print settings moment old new answer)
 
 -- what comes of drawn bytes for new keys

@@ -20,12 +20,12 @@ abbrev pub stanza_named : List ℕ → List RcStanza → Option RcStanza
 stanza_named name file = find (λ stanza. bytes_eq stanza.name name) file
 
 -- what a stanza of this name gives, where it does
-abbrev pub given_by : {X : Type 0} → (RcStanza → Option X) → List RcStanza → List ℕ → Option X
-given_by field file name = option_and_then field (stanza_named name file)
+abbrev pub from_stanza : {X : Type 0} → (RcStanza → Option X) → List RcStanza → List ℕ → Option X
+from_stanza field file name = option_and_then field (stanza_named name file)
 
 -- what the file gives to these words: by the stanza that they name, else by the stanza `default`
 abbrev pub from_file : {X : Type 0} → (RcStanza → Option X) → List RcStanza → SendWords → Option X
-from_file field file words = option_or (given_by field file words.name) (given_by field file (codes "default"))
+from_file field file words = option_or (from_stanza field file words.name) (from_stanza field file (codes "default"))
 
 -- the server, which no datagram needs that is shown and not sent
 abbrev pub server_of : List RcStanza → SendWords → Option (List ℕ)
@@ -65,7 +65,7 @@ need_fault file words = first_failed (
     )
 
 -- nothing that is needed is missing, and the settings are these
-pub record Settles (file : List RcStanza) (words : SendWords) (settings : Settings) : Type 0 where
+pub record GivesSettings (file : List RcStanza) (words : SendWords) (settings : Settings) : Type 0 where
   pub faultless : need_fault file words ≡ None
   pub server : server_of file words ≡ Some settings.server
   pub port : settings.port ≡ port_of file words

@@ -1,7 +1,7 @@
 //! The client's file, read and settled, or why there are no settings.
 ghost use Rattle.std.specs.Prelude.{◌≡◌, MatchResult};
 ghost use Rattle.fk_client.specs.Private.{fault_of};
-ghost use Rattle.fk_client.specs.Running.{FailsToSettle, HasSettings, HasStanzas, rc_test};
+ghost use Rattle.fk_client.specs.Running.{FindsNoSettings, HasSettings, HasStanzas, rc_test};
 ghost use Rattle.fk_program.specs.Faults.{fault_of as file_fault_of};
 ghost use Rattle.fk_program.specs.Files.{FailsFile, files_by};
 
@@ -20,7 +20,7 @@ pub(crate) fn settings_by<'a, F: Files>(
 ) -> Result<Settings, Refusal<'a>>
     ensures { let at = files_by F.Files in MatchResult result
         (λ settings. HasSettings words.now (at files.old) settings × (at files.new ≡ at files.old))
-        (λ refusal. FailsToSettle words.now (fault_of refusal) (at files.old) (at files.new)) }
+        (λ refusal. FindsNoSettings words.now (fault_of refusal) (at files.old) (at files.new)) }
 {
     let name = words.file.as_slice();
     let file = match stanzas_of(alloc, name, files) {

@@ -2,7 +2,7 @@ ghost use Rattle.std.specs.Prelude.{◌≡◌, ◌≤◌, IfOk, IfSome, MatchRes
 ghost use Rattle.std.specs.Option.{option_copied, option_map};
 ghost use Rattle.fk_fields.specs.FieldText.{is_user};
 ghost use Rattle.fk_fields.specs.Fields.{has_timeout};
-ghost use Rattle.fk_client.specs.Settle.{IsNeedErr, Settles, address_of, ask_of, from_file, pairs_of, port_of, seconds_of, server_of};
+ghost use Rattle.fk_client.specs.Settle.{IsNeedErr, GivesSettings, address_of, ask_of, from_file, pairs_of, port_of, seconds_of, server_of};
 
 use crate::stanzas::{
     allow, find_stanza, key, kind, mac_key, mac_kind, pairs, port, server, timeout, user,
@@ -18,7 +18,7 @@ const DEFAULT_PORT: u16 = 62_201;
 
 /// The settings that a client's file and its words give, or what is needed first.
 pub fn settings(alloc: Global, file: &RcFile, words: &SendWords) -> Result<Settings, NeedFault>
-    ensures { MatchResult result (Settles file.now words.now) (IsNeedErr file.now words.now) }
+    ensures { MatchResult result (GivesSettings file.now words.now) (IsNeedErr file.now words.now) }
 {
     if find_stanza(file, words.name.as_slice()).is_none() {
         return Err(NeedFault::NoStanza);

@@ -16,4 +16,4 @@ mod words;
 pub use reading::read_text;
 pub use refusal::{Refusal, refusal_of_words, refuse};
 pub use telling::{printed_status, say, show_text};
-pub use words::command_words;
+pub use words::argument_words;

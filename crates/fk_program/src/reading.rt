@@ -8,7 +8,7 @@ use fk_base::Bytes;
 use fk_host::{FileErr, Files};
 use std::alloc::Global;
 
-/// The text of the file of this name. Whether it is right is not tested: the refusal is one whatever the test.
+/// The text of the file of this name. What it says is not tested here, so a refusal is one by whatever test the caller makes of it.
 pub fn read_text<'a, F: Files>(
     alloc: Global,
     name: &'a [u8],

@@ -6,7 +6,7 @@ use std::env::{Env, FillError};
 const WORD_ROOM: usize = 131_072;
 
 /// The words of the command line byte by byte, without the program's name. So one that is not UTF-8 is refused at its place.
-pub fn command_words<R: Env>(alloc: Global, rt: &R) -> Result<Words, NoMemory> {
+pub fn argument_words<R: Env>(alloc: Global, rt: &R) -> Result<Words, NoMemory> {
     let mut words = Words::new(alloc);
     let mut room = vec![in alloc; 0; WORD_ROOM]?;
     for place in 1..usize::MAX {

@@ -1,12 +1,12 @@
 //! The program `fwknop`: the words of the command line, the clock and the objects of the system, handed to `fk_client`.
 //!
-//! Nothing is decided here. What the words mean, and which number the process ends with, is said by `fk_client::fwknop_run`.
+//! Nothing is decided here; start at `run`. What the words mean, and which number the process ends with, is said by `fk_client::fwknop_run`.
 #![tactic(auto)]
 
 use fk_base::{NoMemory, Status, Words};
 use fk_client::fwknop_run;
 use fk_host::{DirFiles, StdSink, SysEntropy, UdpLink, system_moment};
-use fk_program::command_words;
+use fk_program::argument_words;
 use std::io;
 use std::process::ExitCode;
 
@@ -16,7 +16,7 @@ fn main(rt: HostRuntime) -> ExitCode {
 
 /// Runs on the system's objects. Where there is no memory for the words nothing is read or written.
 fn run(rt: &HostRuntime) -> Status {
-    match command_words(rt.alloc(), rt) {
+    match argument_words(rt.alloc(), rt) {
         Ok(words) => run_words(rt, &words),
         Err(NoMemory) => Status::NoMemory,
     }

@@ -1,12 +1,12 @@
 //! The program `fwknopd`: the words of the command line and the objects of the system, handed to `fk_command`.
 //!
-//! Nothing is decided here. What the words ask for, and which number the process ends with, is said by `fk_command::fwknopd_run`.
+//! Nothing is decided here; start at `run`. What the words ask for, and which number the process ends with, is said by `fk_command::fwknopd_run`.
 #![tactic(auto)]
 
 use fk_base::{NoMemory, Status, Words};
 use fk_command::fwknopd_run;
 use fk_host::{DirFiles, StdSink, StdSource, SysHost, UdpFeed};
-use fk_program::command_words;
+use fk_program::argument_words;
 use std::io;
 use std::process::ExitCode;
 
@@ -16,7 +16,7 @@ fn main(rt: HostRuntime) -> ExitCode {
 
 /// Runs on the system's objects. Where there is no memory for the words nothing is read or written.
 fn run(rt: &HostRuntime) -> Status {
-    match command_words(rt.alloc(), rt) {
+    match argument_words(rt.alloc(), rt) {
         Ok(words) => run_on(rt, &words),
         Err(NoMemory) => Status::NoMemory,
     }
