@@ -10,6 +10,7 @@
 mod fault_names;
 mod files;
 mod help;
+mod limits;
 mod listing;
 mod running;
 mod serving;
@@ -17,4 +18,5 @@ mod serving;
 mod tests;
 mod trying;
 
+pub use limits::limits_have_their_numbers;
 pub use running::fwknopd_run;
