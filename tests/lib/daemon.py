@@ -116,8 +116,8 @@ class Daemon:
     def doors(self):
         return self.read("doors").splitlines()
 
-    def send(self, datagram):
-        self.socket.sendto(datagram if isinstance(datagram, bytes) else datagram.encode(), ("127.0.0.1", self.port))
+    def send(self, datagram, address="127.0.0.1"):
+        self.socket.sendto(datagram if isinstance(datagram, bytes) else datagram.encode(), (address, self.port))
 
     def ask(self, datagram, answer):
         """Sends a datagram, and waits until one line more with this answer has come."""
