@@ -52,7 +52,7 @@ pub record HasCauses (ending : Ending) (old new : Outside) : Type 0 where
   pub end : EndsFeed ending new.feed.has_ended
 
 -- What a last turn asked of the host before memory was wanting in it: behind the Turn item one call for each further item and four for
--- each change, and, where the turn made a record, one more that brought nothing. That is the host's own start.
+-- each change, and one more that brought nothing, always where the turn made a record. That is the host's own start.
 pub record AsksHost (last : TakenTurn) (later : Told) : Type 0 where
   pub start : Item
   pub further : List Item

@@ -15,7 +15,7 @@ pub record Book : Type 0 where
   pub limit : ℕ
   -- how many bytes the journal may use
   pub room : ℕ
-  -- how long the entry's payload of a record may be that is recorded without memory
+  -- how long the payload of a record's entry may be, so that neither the record nor its end asks for memory
   pub reserved : ℕ
   -- a call failed, and the ledger has to be opened again
   pub is_spent : Bool

@@ -17,8 +17,8 @@ mod reading;
 mod tests;
 mod writing;
 
-/// Why a ledger can't be opened or read. What is damaged is the area or an entry.
 pub use fault::RecordFault;
+/// Why a ledger can't be opened or read. What is damaged is the area or an entry.
 pub use fk_journal::JournalErr as LedgerErr;
 pub use laws::{
     a_stretch_may_be_cut, adjoining_stretches_are_one, calls_that_leave_the_areas_are_a_stretch,
