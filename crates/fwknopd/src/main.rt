@@ -1,10 +1,10 @@
-//! The program `fwknopd`: the words of the command line and the objects of the system, handed to `fk_command`.
+//! The program `fwknopd`: the words of the command line and the objects of the system, handed to `fk_serve`.
 //!
-//! Nothing is decided here; start at `run`. What the words ask for, and which number the process ends with, is said by `fk_command::fwknopd_run`.
+//! Nothing is decided here; start at `run`. What the words ask for, and which number the process ends with, is said by `fk_serve::fwknopd_run`.
 #![tactic(auto)]
 
 use fk_base::{NoMemory, Status, Words};
-use fk_command::fwknopd_run;
+use fk_serve::fwknopd_run;
 use fk_host::{DirFiles, StdSink, StdSource, SysHost, UdpFeed};
 use fk_program::argument_words;
 use std::io;
