@@ -2,10 +2,10 @@
 use Rattle.std.proofs.Common.{◌≡◌, ◌≢◌, ℕ, Bool, true, false, List, refl, sym, ap, subst, inl, inr}
 use Rattle.fk_base.specs.declared.status.Status.{Status}
 use Rattle.fk_base.specs.declared.status.Status.TheVariants as status
-use Rattle.fk_conf.specs.declared.command.Command.{Command}
-use Rattle.fk_conf.specs.declared.command.Command.TheVariants as command
-use Rattle.fk_conf.specs.declared.command.SendWords.{SendWords}
-use Rattle.fk_conf.specs.declared.word_fault.WordFault.{WordFault}
+use Rattle.fk_words.specs.declared.command.Command.{Command}
+use Rattle.fk_words.specs.declared.command.Command.TheVariants as command
+use Rattle.fk_words.specs.declared.command.SendWords.{SendWords}
+use Rattle.fk_words.specs.declared.word_fault.WordFault.{WordFault}
 use Rattle.fk_log.specs.Causes.{FailsOnlyAs, FailsSink}
 use Rattle.fk_log.specs.Printing.{SinkView}
 use Rattle.fk_client.specs.declared.help.TheConstants.{HELP, VERSION}

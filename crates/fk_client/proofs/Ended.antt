@@ -8,16 +8,16 @@ use Rattle.fk_host.specs.Count.{counted, Rose}
 use Rattle.fk_host.specs.Files.{bytes_of_file}
 use Rattle.fk_host.proofs.Counts.{counted-Rose}
 use Rattle.fk_log.specs.Causes.{FailsOnlyAs, FailsSink}
-use Rattle.fk_conf.specs.declared.command.Command.{Command}
-use Rattle.fk_conf.specs.declared.command.Command.TheVariants as command
-use Rattle.fk_conf.specs.declared.command.SendWords.{SendWords}
-use Rattle.fk_conf.specs.declared.tool.Tool.TheVariants.{Client}
-use Rattle.fk_conf.specs.declared.word_fault.WordFault.{WordFault}
-use Rattle.fk_conf.specs.declared.word_fault.WordFault.TheVariants as word
 use Rattle.fk_conf.specs.FaultNames.{conf_fault_name}
 use Rattle.fk_conf.specs.RcFault.{rc_fault}
 use Rattle.fk_conf.specs.ReadsRc.{ReadsRc}
-use Rattle.fk_conf.specs.ReadsWords.{IsWordErr, ReadsWords, set_read}
+use Rattle.fk_words.specs.declared.command.Command.{Command}
+use Rattle.fk_words.specs.declared.command.Command.TheVariants as command
+use Rattle.fk_words.specs.declared.command.SendWords.{SendWords}
+use Rattle.fk_words.specs.declared.tool.Tool.TheVariants.{Client}
+use Rattle.fk_words.specs.declared.word_fault.WordFault.{WordFault}
+use Rattle.fk_words.specs.declared.word_fault.WordFault.TheVariants as word
+use Rattle.fk_words.specs.ReadsWords.{IsWordErr, ReadsWords, set_read}
 use Rattle.fk_client.specs.declared.sent.Packet.{Packet}
 use Rattle.fk_client.specs.declared.settled.Settings.{Settings}
 use Rattle.fk_client.specs.Causes.{FailsByAnswer}
@@ -31,7 +31,7 @@ use Rattle.fk_client.specs.Outside.{Outside}
 use Rattle.fk_client.specs.Ready.{CountsNone, EndsAs, IsReadyFor, IsReadyToSend, IsWrongText, MeetsNoFault, NamesNoFile, NamesWrongFile}
 use Rattle.fk_client.specs.Running.{Delivers, FindsNoSettings, HasSettings, MakesKeys, RunsClient, RunsSend, Runs, SendsBy}
 use Rattle.fk_client.specs.Settle.{need_fault}
-use Rattle.fk_conf.specs.CommandOf.{AskAlike, SaysSame}
+use Rattle.fk_words.specs.CommandOf.{AskAlike, SaysSame}
 use Rattle.fk_client.proofs.Needs.{needs-same}
 
 -- the answer is no fault of an object

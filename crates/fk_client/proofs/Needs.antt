@@ -10,11 +10,11 @@ use Rattle.fk_base.specs.declared.pair.Pair.{Pair}
 use Rattle.fk_lines.specs.Lines.{NumberedLine}
 use Rattle.fk_conf.specs.ReadsRc.{IsRcStanzaOf, ReadsRc}
 use Rattle.fk_conf.specs.RcFault.{rc_stanzas}
-use Rattle.fk_conf.specs.declared.command.SendWords.{SendWords}
 use Rattle.fk_conf.specs.declared.rc_stanza.RcStanza.{RcStanza}
+use Rattle.fk_words.specs.declared.command.SendWords.{SendWords}
 use Rattle.fk_client.specs.declared.need_fault.NeedFault.TheVariants.{NoStanza, NoServer, NoAccess, NoAllow, NoKey, NoHmacKey}
 use Rattle.fk_client.specs.Settle.{address_of, from_file, from_stanza, need_fault, pairs_of, server_of, stanza_named}
-use Rattle.fk_conf.specs.CommandOf.{SaysSame}
+use Rattle.fk_words.specs.CommandOf.{SaysSame}
 
 -- what is needed of a stanza
 record Plain : Type 0 where

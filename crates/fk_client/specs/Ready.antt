@@ -6,12 +6,12 @@ use Rattle.fk_host.specs.Count.{Rose}
 use Rattle.fk_host.specs.Files.{bytes_of_file}
 use Rattle.fk_conf.specs.RcFault.{rc_fault}
 use Rattle.fk_conf.specs.ReadsRc.{ReadsRc}
-use Rattle.fk_conf.specs.ReadsWords.{ReadsWords}
-use Rattle.fk_conf.specs.declared.command.Command.{Command}
-use Rattle.fk_conf.specs.declared.command.Command.TheVariants as command
-use Rattle.fk_conf.specs.declared.command.SendWords.{SendWords}
 use Rattle.fk_conf.specs.declared.rc_stanza.RcStanza.{RcStanza}
-use Rattle.fk_conf.specs.declared.tool.Tool.TheVariants.{Client}
+use Rattle.fk_words.specs.ReadsWords.{ReadsWords}
+use Rattle.fk_words.specs.declared.command.Command.{Command}
+use Rattle.fk_words.specs.declared.command.Command.TheVariants as command
+use Rattle.fk_words.specs.declared.command.SendWords.{SendWords}
+use Rattle.fk_words.specs.declared.tool.Tool.TheVariants.{Client}
 use Rattle.fk_program.specs.Files.{FilesView}
 use Rattle.fk_client.specs.Outside.{Outside}
 use Rattle.fk_client.specs.Settle.{need_fault}

@@ -8,13 +8,13 @@ use Rattle.fk_log.specs.Printing.{SinkView}
 use Rattle.fk_conf.specs.FaultNames.{conf_fault_name}
 use Rattle.fk_conf.specs.RcFault.{rc_fault}
 use Rattle.fk_conf.specs.ReadsRc.{ReadsRc}
-use Rattle.fk_conf.specs.ReadsWords.{IsWordErr, ReadsWords}
-use Rattle.fk_conf.specs.declared.command.Command.{Command}
-use Rattle.fk_conf.specs.declared.command.Command.TheVariants as command
-use Rattle.fk_conf.specs.declared.command.SendWords.{SendWords}
 use Rattle.fk_conf.specs.declared.rc_stanza.RcStanza.{RcStanza}
-use Rattle.fk_conf.specs.declared.tool.Tool.TheVariants.{Client}
-use Rattle.fk_conf.specs.declared.word_fault.WordFault.{WordFault}
+use Rattle.fk_words.specs.ReadsWords.{IsWordErr, ReadsWords}
+use Rattle.fk_words.specs.declared.command.Command.{Command}
+use Rattle.fk_words.specs.declared.command.Command.TheVariants as command
+use Rattle.fk_words.specs.declared.command.SendWords.{SendWords}
+use Rattle.fk_words.specs.declared.tool.Tool.TheVariants.{Client}
+use Rattle.fk_words.specs.declared.word_fault.WordFault.{WordFault}
 use Rattle.fk_client.specs.declared.help.TheConstants.{HELP, VERSION}
 use Rattle.fk_client.specs.declared.need_fault.NeedFault.{NeedFault}
 use Rattle.fk_client.specs.declared.sent.Packet.{Packet}

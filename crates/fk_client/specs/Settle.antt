@@ -7,8 +7,8 @@ use Rattle.fk_base.specs.FirstFailed.{first_failed}
 use Rattle.fk_base.specs.declared.address.Ip4.{Ip4}
 use Rattle.fk_base.specs.declared.hash_kind.HashKind.TheVariants.{Sha256}
 use Rattle.fk_base.specs.declared.pair.Pair.{Pair}
-use Rattle.fk_conf.specs.declared.command.SendWords.{SendWords}
 use Rattle.fk_conf.specs.declared.rc_stanza.RcStanza.{RcStanza}
+use Rattle.fk_words.specs.declared.command.SendWords.{SendWords}
 use Rattle.fk_fields.specs.declared.fields.Ask.{Ask}
 use Rattle.fk_fields.specs.declared.fields.Ask.TheVariants.{Access, Timed}
 use Rattle.fk_client.specs.declared.need_fault.NeedFault.{NeedFault}

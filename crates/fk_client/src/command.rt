@@ -1,7 +1,7 @@
 ghost use Rattle.std.specs.Prelude.{◌≡◌, ◌↔◌, IsErr};
-ghost use Rattle.fk_conf.specs.CommandOf.{IsCommandOf};
-ghost use Rattle.fk_conf.specs.ReadsWords.{set_read};
-ghost use Rattle.fk_conf.specs.declared.tool.Tool.TheVariants.{Client};
+ghost use Rattle.fk_words.specs.CommandOf.{IsCommandOf};
+ghost use Rattle.fk_words.specs.ReadsWords.{set_read};
+ghost use Rattle.fk_words.specs.declared.tool.Tool.TheVariants.{Client};
 ghost use Rattle.fk_host.specs.Count.{Rose};
 ghost use Rattle.fk_client.specs.Causes.{FailsByAnswer};
 ghost use Rattle.fk_client.specs.Outside.{outside_by};
@@ -13,11 +13,11 @@ use crate::help::{HELP, VERSION};
 use crate::key_making::make_keys;
 use crate::sending::run_send;
 use fk_base::{Moment, Status, Words};
-use fk_conf::{
-    Command, Tool, client_words_ask_for_one_packet, read_words, words_ask_for_their_program,
-};
 use fk_host::{Entropy, Files, Link, Sink};
 use fk_program::{refusal_of_words, refuse, show_text};
+use fk_words::{
+    Command, Tool, client_words_ask_for_one_packet, read_words, words_ask_for_their_program,
+};
 use std::alloc::Global;
 
 /// Runs `fwknop` on the words of its command line, without the program's name, at this moment. Faults are tried in this order: the

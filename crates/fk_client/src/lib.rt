@@ -1,8 +1,8 @@
 //! The client: the one packet that its words and its file ask for, sent or shown, and new keys.
 //!
 //! A value comes from the words, else from the named stanza of the client's file, else from its stanza `default`. The files, the
-//! entropy, the link and the output come in as traits: no socket or clock is known here. What words and files are is said by
-//! `fk_conf`, and how a fault of them is told by `fk_program`.
+//! entropy, the link and the output come in as traits: no socket or clock is known here. What words are is said by `fk_words`, what
+//! files are by `fk_conf`, and how a fault of them is told by `fk_program`.
 //!
 //! Start at `command`, whose one call the program makes; `specs/Running.antt` says what it does. `specs/Settle.antt` says where each
 //! value comes from and what is needed, and `specs/Sent.antt` what the datagram is.

@@ -7,9 +7,10 @@ ghost use Rattle.fk_program.specs.Files.{FailsFile, files_by};
 
 use crate::refusal::{Refusal, need_name};
 use crate::{NeedFault, Settings, settings};
-use fk_conf::{ConfErr, RcFile, SendWords, conf_fault_name, read_rc};
+use fk_conf::{ConfErr, RcFile, conf_fault_name, read_rc};
 use fk_host::Files;
 use fk_program::read_text;
+use fk_words::SendWords;
 use std::alloc::Global;
 
 /// The settings that the words and the file that they name give.

@@ -12,8 +12,8 @@ use crate::reading::settings_by;
 use crate::refusal::{Refusal, refuse};
 use crate::{DRAWN_BYTES, Packet, Settings, packet};
 use fk_base::{Failed, Moment, NoMemory, Status};
-use fk_conf::SendWords;
 use fk_host::{Entropy, Files, Link, Sink};
+use fk_words::SendWords;
 use itoa::Buffer;
 use std::alloc::Global;
 

@@ -9,8 +9,9 @@ use crate::stanzas::{
 };
 use crate::{NeedFault, Settings};
 use fk_base::{Bytes, HashKind, Ip4, Keys, NoMemory, Pairs};
-use fk_conf::{RcFile, SendWords};
+use fk_conf::RcFile;
 use fk_fields::Ask;
+use fk_words::SendWords;
 use std::alloc::Global;
 
 /// The port of a server where neither the words nor the file say one.

@@ -4,7 +4,8 @@ ghost use Rattle.fk_fields.specs.FieldText.{is_user};
 ghost use Rattle.fk_client.specs.Settle.{from_file, stanza_named};
 
 use fk_base::{Bytes, HashKind, Ip4, Pairs};
-use fk_conf::{RcFile, RcStanza, SendWords};
+use fk_conf::{RcFile, RcStanza};
+use fk_words::SendWords;
 
 /// The stanza whose values stand in for those that the named one lacks.
 const DEFAULT_NAME: &[u8] = b"default";

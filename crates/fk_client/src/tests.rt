@@ -1,7 +1,8 @@
 use crate::{NeedFault, packet, settings};
 use fk_base::{HashKind, Ip4, Moment, Words};
-use fk_conf::{Command, Tool, read_rc, read_words};
+use fk_conf::read_rc;
 use fk_fields::Ask;
+use fk_words::{Command, Tool, read_words};
 use std::test::Fail;
 
 mod command;

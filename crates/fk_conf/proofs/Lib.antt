@@ -1,7 +1,2 @@
-pub mod Asked
-mod WordRows
 mod Rows
-pub mod WordSteps
-pub mod WordErrs
 pub mod RcSteps
-pub mod WordsAsk

@@ -2,7 +2,7 @@
 use Rattle.std.specs.Prelude.{ℕ, Bool, true, List, [], ◌∷◌, map, codes, Option}
 use Rattle.std.specs.Str.{bytes_eq}
 use Rattle.fk_values.specs.Settings.{NameRule, named, reads_as}
-use Rattle.fk_values.specs.Values.{number_within}
+use Rattle.fk_values.specs.Values.{number_within, port_in}
 use Rattle.fk_conf.specs.declared.conf_name.ConfName.{ConfName}
 use Rattle.fk_conf.specs.declared.conf_name.ConfName.TheVariants.{MaxSpaPacketAge, UdpservPort, CycleLimit, JournalLimit, EnableUdpServer, EnableSpaPacketAging, EnableDigestPersistence, PcapIntf, PcapFilter, EnablePcapPromisc, SyslogIdentity, SyslogFacility, FwknopRunDir}
 
@@ -17,10 +17,6 @@ is_any value = true
 -- how many seconds a packet's stamp may lie from the moment at which it comes
 abbrev pub age_in : List ℕ → Option ℕ
 age_in = number_within 1 31536000
-
--- a port
-abbrev pub port_in : List ℕ → Option ℕ
-port_in = number_within 1 65535
 
 -- how many records may be live at once
 abbrev pub live_in : List ℕ → Option ℕ

@@ -6,9 +6,9 @@ use Rattle.fk_base.specs.declared.address.Ip4.{Ip4}
 use Rattle.fk_fields.specs.FieldText.{is_user}
 use Rattle.fk_lines.specs.Lines.{Setting}
 use Rattle.fk_values.specs.Settings.{NameRule, named, reads_as}
-use Rattle.fk_values.specs.Values.{base64_key_in, hash_in, is_host, key_in, number_within, pairs_within}
+use Rattle.fk_values.specs.Values.{base64_key_in, hash_in, is_host, key_in, number_within, pairs_within, port_in}
 use Rattle.fk_base.specs.declared.moment.TheConstants.{LONGEST_TIME}
-use Rattle.fk_conf.specs.Conf.{is_yes, port_in}
+use Rattle.fk_conf.specs.Conf.{is_yes}
 use Rattle.fk_conf.specs.declared.rc_name.RcName.{RcName}
 use Rattle.fk_conf.specs.declared.rc_name.RcName.TheVariants.{SpaServer, SpaServerPort, Access, AllowIp, Key, KeyBase64, HmacKey, HmacKeyBase64, HmacDigestType, DigestType, FwTimeout, SpoofUser, UseHmac}
 

@@ -2,10 +2,11 @@
 use Rattle.std.specs.Prelude.{◌≡◌, ℕ, List, Option, None, unwrap_or}
 use Rattle.fk_lines.specs.Lines.{Setting, lines_of}
 use Rattle.fk_values.specs.Settings.{given_by, read_of, settings_of}
+use Rattle.fk_values.specs.Values.{port_in}
 use Rattle.fk_conf.specs.declared.conf.Conf.{Conf}
 use Rattle.fk_conf.specs.declared.conf_name.ConfName.{ConfName}
 use Rattle.fk_conf.specs.declared.conf_name.ConfName.TheVariants.{MaxSpaPacketAge, UdpservPort, CycleLimit, JournalLimit}
-use Rattle.fk_conf.specs.Conf.{age_in, conf_rule, conf_rules, live_in, port_in, room_in}
+use Rattle.fk_conf.specs.Conf.{age_in, conf_rule, conf_rules, live_in, room_in}
 use Rattle.fk_conf.specs.ConfErr.{conf_fault}
 
 -- the number that stands behind a name, or what holds without it

@@ -2,8 +2,8 @@
 use Rattle.std.proofs.Common.{◌≡◌, ◌≢◌, ℕ, Bool, true, false, List, Option, refl, sym, ap, subst, inl, inr}
 use Rattle.fk_base.specs.declared.status.Status.{Status}
 use Rattle.fk_base.specs.declared.status.Status.TheVariants as status
-use Rattle.fk_conf.specs.declared.word_fault.WordFault.{WordFault}
-use Rattle.fk_conf.specs.declared.word_fault.WordFault.TheVariants as word
+use Rattle.fk_words.specs.declared.word_fault.WordFault.{WordFault}
+use Rattle.fk_words.specs.declared.word_fault.WordFault.TheVariants as word
 use Rattle.fk_log.specs.Causes.{FailsOnlyAs, FailsSink}
 use Rattle.fk_log.specs.Printing.{SinkView, Prints}
 use Rattle.fk_program.specs.Faults.{Fault, Tells, fault_of_words, fault_status, fault_text}

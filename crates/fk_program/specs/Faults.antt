@@ -2,8 +2,8 @@
 use Rattle.std.specs.Prelude.{ℕ, List, Option, Some, None}
 use Rattle.fk_base.specs.declared.status.Status.{Status}
 use Rattle.fk_base.specs.declared.status.Status.TheVariants as status
-use Rattle.fk_conf.specs.declared.word_fault.WordFault.{WordFault}
-use Rattle.fk_conf.specs.declared.word_fault.WordFault.TheVariants as word
+use Rattle.fk_words.specs.declared.word_fault.WordFault.{WordFault}
+use Rattle.fk_words.specs.declared.word_fault.WordFault.TheVariants as word
 use Rattle.fk_log.specs.declared.usage_fault.UsageFault.{UsageFault}
 use Rattle.fk_log.specs.declared.usage_fault.UsageFault.TheVariants as usage
 use Rattle.fk_log.specs.Line.{line_text}

@@ -5,9 +5,9 @@ ghost use Rattle.fk_program.specs.Faults.{Tells, fault_of, fault_of_words};
 
 use crate::say;
 use fk_base::Status;
-use fk_conf::WordFault;
 use fk_host::Sink;
 use fk_log::{LogItem, UsageFault};
+use fk_words::WordFault;
 
 /// Why a program comes to nothing for its words or a file.
 #[derive(Clone, Copy)]

@@ -1,12 +1,12 @@
 -- A run in whose way nothing stands ends well, whatever its words ask for.
 use Rattle.std.proofs.Common.{◌≡◌, ℕ, List, subst, inl, inr}
 use Rattle.fk_base.specs.declared.status.Status.{Status}
-use Rattle.fk_conf.specs.declared.command.Command.{Command}
-use Rattle.fk_conf.specs.declared.command.Command.TheVariants as command
-use Rattle.fk_conf.specs.declared.tool.Tool.TheVariants.{Daemon}
-use Rattle.fk_conf.specs.declared.word_fault.WordFault.{WordFault}
-use Rattle.fk_conf.specs.declared.word_fault.WordFault.TheVariants as word
-use Rattle.fk_conf.specs.ReadsWords.{IsWordErr, ReadsWords}
+use Rattle.fk_words.specs.declared.command.Command.{Command}
+use Rattle.fk_words.specs.declared.command.Command.TheVariants as command
+use Rattle.fk_words.specs.declared.tool.Tool.TheVariants.{Daemon}
+use Rattle.fk_words.specs.declared.word_fault.WordFault.{WordFault}
+use Rattle.fk_words.specs.declared.word_fault.WordFault.TheVariants as word
+use Rattle.fk_words.specs.ReadsWords.{IsWordErr, ReadsWords}
 use Rattle.fk_serve.specs.World.{World, streams_of}
 use Rattle.fk_program.specs.Faults.{fault_of_words, fault_status}
 use Rattle.fk_serve.specs.Running.{Runs, RunsWords}

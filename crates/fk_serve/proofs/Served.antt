@@ -3,8 +3,8 @@ use Rattle.std.proofs.Common.{◌≡◌, ◌⊎◌, ℕ, ◌≤◌, Bool, List, 
 use Rattle.fk_base.specs.declared.status.Status.{Status}
 use Rattle.fk_run.specs.declared.limits.Limits.{Limits}
 use Rattle.fk_log.specs.declared.verbosity.Verbosity.{Verbosity}
-use Rattle.fk_conf.specs.declared.command.Command.TheVariants as command
-use Rattle.fk_conf.specs.Limits.{IsLimit}
+use Rattle.fk_words.specs.declared.command.Command.TheVariants as command
+use Rattle.fk_words.specs.Limits.{IsLimit}
 use Rattle.fk_daemon.specs.Account.{AreLimits}
 use Rattle.fk_conf.specs.declared.conf.Conf.{Conf}
 use Rattle.fk_access.specs.declared.stanza.Stanza.{Stanza}

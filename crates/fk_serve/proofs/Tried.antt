@@ -9,8 +9,8 @@ use Rattle.fk_input.specs.declared.fault.Fault.{Fault}
 use Rattle.fk_input.specs.Lines.{Reads, end, line, bad, long}
 use Rattle.fk_log.specs.declared.verbosity.Verbosity.{Verbosity}
 use Rattle.fk_log.specs.Causes.{FailsOnlyAs, FailsSink}
-use Rattle.fk_conf.specs.declared.command.Command.TheVariants as command
 use Rattle.fk_conf.specs.declared.conf.Conf.{Conf}
+use Rattle.fk_words.specs.declared.command.Command.TheVariants as command
 use Rattle.fk_access.specs.declared.stanza.Stanza.{Stanza}
 use Rattle.fk_child.specs.View.{View}
 use Rattle.fk_daemon.specs.Outside.{FeedView}

@@ -7,11 +7,11 @@ use Rattle.fk_trace.specs.Decision.{FeedTurn}
 use Rattle.fk_host.specs.Count.{Rose}
 use Rattle.fk_host.specs.Disk.{Told}
 use Rattle.fk_host.specs.Files.{bytes_of_file}
-use Rattle.fk_conf.specs.declared.command.Command.{Command}
-use Rattle.fk_conf.specs.declared.command.Command.TheVariants as command
-use Rattle.fk_conf.specs.declared.tool.Tool.TheVariants.{Daemon}
 use Rattle.fk_conf.specs.ConfErr.{conf_fault}
-use Rattle.fk_conf.specs.ReadsWords.{ReadsWords}
+use Rattle.fk_words.specs.declared.command.Command.{Command}
+use Rattle.fk_words.specs.declared.command.Command.TheVariants as command
+use Rattle.fk_words.specs.declared.tool.Tool.TheVariants.{Daemon}
+use Rattle.fk_words.specs.ReadsWords.{ReadsWords}
 use Rattle.fk_access.specs.AccessFault.{access_fault}
 use Rattle.fk_ledger.specs.Holds.{HoldsLedger}
 use Rattle.fk_input.specs.Lines.{pieces}

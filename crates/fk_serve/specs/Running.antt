@@ -4,11 +4,11 @@ use Rattle.fk_base.specs.declared.status.Status.{Status}
 use Rattle.fk_run.specs.declared.limits.Limits.{Limits}
 use Rattle.fk_log.specs.declared.verbosity.Verbosity.{Verbosity}
 use Rattle.fk_log.specs.declared.verbosity.Verbosity.TheVariants as verbosity
-use Rattle.fk_conf.specs.declared.command.Command.{Command}
-use Rattle.fk_conf.specs.declared.command.Command.TheVariants as command
-use Rattle.fk_conf.specs.declared.tool.Tool.TheVariants.{Daemon}
-use Rattle.fk_conf.specs.declared.word_fault.WordFault.{WordFault}
-use Rattle.fk_conf.specs.ReadsWords.{ReadsWords, IsWordErr}
+use Rattle.fk_words.specs.declared.command.Command.{Command}
+use Rattle.fk_words.specs.declared.command.Command.TheVariants as command
+use Rattle.fk_words.specs.declared.tool.Tool.TheVariants.{Daemon}
+use Rattle.fk_words.specs.declared.word_fault.WordFault.{WordFault}
+use Rattle.fk_words.specs.ReadsWords.{ReadsWords, IsWordErr}
 use Rattle.fk_daemon.specs.declared.task.Task.{Task}
 use Rattle.fk_daemon.specs.Serving.{Serves}
 use Rattle.fk_trial.specs.declared.task.TrialTask.{TrialTask}

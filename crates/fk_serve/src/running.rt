@@ -1,5 +1,5 @@
 ghost use Rattle.fk_serve.specs.Causes.{FailsByAnswer};
-ghost use Rattle.fk_conf.specs.DaemonCommands.{IsForDaemon};
+ghost use Rattle.fk_words.specs.DaemonCommands.{IsForDaemon};
 ghost use Rattle.fk_serve.specs.Ready.{EndsWell, MeetsNoFault};
 ghost use Rattle.fk_serve.specs.Running.{Runs, RunsWords, serving_verbosity, trying_verbosity};
 ghost use Rattle.fk_serve.specs.World.{world_by};
@@ -11,12 +11,12 @@ use crate::listing::list_records;
 use crate::serving::{Asked, serve_by_files};
 use crate::trying::try_by_files;
 use fk_base::{Status, Words};
-use fk_conf::{Command, Tool, daemon_words_ask_for_one_command, read_words};
 use fk_host::{Feed, Files, Host, Sink, Source};
 use fk_ledger::no_area_holds_two_ledgers;
 use fk_log::Verbosity;
 use fk_program::{refusal_of_words, refuse, show_text};
 use fk_run::Limits;
+use fk_words::{Command, Tool, daemon_words_ask_for_one_command, read_words};
 use std::alloc::Global;
 
 /// Runs `fwknopd` on the words of its command line, without the program's name. Faults are tried in this order: the words, the

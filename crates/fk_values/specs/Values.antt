@@ -19,6 +19,10 @@ use Rattle.fk_lines.specs.Lines.{trim_front, without_last}
 abbrev pub number_within : ℕ → ℕ → List ℕ → Option ℕ
 number_within least most text = option_and_then (λ n. if nat_le least n then Some n else None) (number_in most text)
 
+-- a port
+abbrev pub port_in : List ℕ → Option ℕ
+port_in = number_within 1 65535
+
 -- a flag is `Y` or `N`
 abbrev pub flag_in : List ℕ → Option Bool
 flag_in text = if bytes_eq text (codes "Y") then Some true else (if bytes_eq text (codes "N") then Some false else None)

@@ -1,7 +1,7 @@
 use Rattle.std.proofs.Common.{refl, sym, subst}
 use Rattle.fk_child.specs.View.{view_of}
-use Rattle.fk_conf.specs.declared.command.Command.{Command}
-use Rattle.fk_conf.specs.DaemonCommands.{IsForDaemon}
+use Rattle.fk_words.specs.declared.command.Command.{Command}
+use Rattle.fk_words.specs.DaemonCommands.{IsForDaemon}
 use Rattle.fk_daemon.specs.Outside.{feed_by}
 use Rattle.fk_serve.specs.declared.help.TheConstants.{HELP, VERSION}
 use Rattle.fk_serve.specs.Running.{PrintsOnly, Runs}

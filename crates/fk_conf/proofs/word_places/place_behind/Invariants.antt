@@ -1,6 +1,0 @@
-use Rattle.std.proofs.Common.{◌≡◌, drop}
-use Rattle.fk_conf.specs.WordPlaces.{words_behind}
-use Rattle.fk_conf.proofs.word_places.place_behind.Given as goal
-
-abbrev pub invariant-loop-at : goal.invariant-loop-at
-invariant-loop-at l = words_behind l.text l.words ≡ words_behind l.text (drop l.at l.words)

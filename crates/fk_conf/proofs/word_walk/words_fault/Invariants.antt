@@ -1,6 +1,0 @@
-use Rattle.std.proofs.Common.{◌≡◌, None}
-use Rattle.fk_conf.specs.WordFaults.{fault_at, first_fault_at}
-use Rattle.fk_conf.proofs.word_walk.words_fault.Given as goal
-
-abbrev pub invariant-loop-at : goal.invariant-loop-at
-invariant-loop-at l = first_fault_at (fault_at l.tool l.words) l.at ≡ None

@@ -1,0 +1,9 @@
+pub mod CommandOf
+pub mod CommandOptions
+pub mod DaemonCommands
+pub mod Limits
+pub mod Operands
+pub mod OptionSets
+pub mod ReadsWords
+pub mod WordFaults
+pub mod WordPlaces
