@@ -1,17 +1,7 @@
 pub mod Count
 pub mod Disk
-pub mod Medium
-pub mod Sound
 pub mod Stream
-pub mod Supply
-pub mod Stock
 pub mod Files
-pub mod Shelf
 pub mod Host
-pub mod Children
-pub mod HostRecord
 pub mod Feed
 pub mod Link
-pub mod Queue
-pub mod Outbox
-pub mod Pool

@@ -1,5 +1,5 @@
 use crate::{LineReader, NextLine, reading_exists, reading_is_unique};
-use fk_host::MemSource;
+use fk_memory::MemSource;
 use std::test::Fail;
 
 // The lines stand in one text, each with a bar behind it. The lines are those that Python's `split(b"\n")` gives, a

@@ -2,7 +2,8 @@ ghost use Rattle.std.specs.Prelude.{None};
 
 use crate::{LogItem, LogWriter, Tally, UsageFault, Verbosity, render};
 use fk_base::{Bytes, Digest, Failed, Ip4, Moment, Pair, Proto, Purpose, Words};
-use fk_host::{MemSink, Sink};
+use fk_host::Sink;
+use fk_memory::MemSink;
 use fk_trace::{LogWhy, OpenRecord};
 use std::str;
 use std::test::Fail;

@@ -2,7 +2,7 @@
 use crate::fwknopd_run;
 use crate::help::HELP;
 use fk_base::{Ip4, Moment, NoMemory, Status, Words};
-use fk_host::{MemFeed, MemFiles, MemHost, MemSink, MemSource};
+use fk_memory::{MemFeed, MemFiles, MemHost, MemSink, MemSource};
 use std::alloc::Global;
 use std::process::Abort;
 use std::test::Fail;

@@ -18,7 +18,7 @@ use Rattle.fk_run.specs.Turn.{TakenTurn, WholeTurn}
 use Rattle.fk_host.specs.declared.host.ChildId.{ChildId}
 use Rattle.fk_host.specs.declared.host.StartErr.{StartErr}
 use Rattle.fk_host.specs.Host.{is_running}
-use Rattle.fk_host.specs.Children.{Children, above_children, start_answer, poll_answer, children_after, IsUnscripted, BeganEarlier}
+use Rattle.fk_memory.specs.Children.{Children, above_children, start_answer, poll_answer, children_after, IsUnscripted, BeganEarlier}
 use Rattle.fk_trial.specs.Replay.{no_children, children_behind, IsAnswer, AreAnswers}
 use Rattle.fk_trial.specs.Trace.{GoesWell, child_numbers, IsTrialTrace}
 

@@ -7,10 +7,10 @@ use Rattle.fk_trace.specs.Trace.Event.{Turn}
 use Rattle.fk_host.specs.declared.host.ChildId.{ChildId}
 use Rattle.fk_host.specs.declared.host.StartErr.{StartErr}
 use Rattle.fk_host.specs.declared.host.StartErr.TheVariants.{Failed as NotStarted, NoMemory}
-use Rattle.fk_host.specs.declared.memory_host.Call.{Call}
+use Rattle.fk_memory.specs.declared.host.Call.{Call}
 use Rattle.fk_host.specs.Host.{brought_by_start, brought_by_poll, items_of, is_running}
-use Rattle.fk_host.specs.Children.{Children, above_children, start_answer, poll_answer, children_after, children_by}
-use Rattle.fk_host.specs.Medium.{Memory, after_disk_call, after_call_above}
+use Rattle.fk_memory.specs.Children.{Children, above_children, start_answer, poll_answer, children_after, children_by}
+use Rattle.fk_memory.specs.Medium.{Memory, after_disk_call, after_call_above}
 use Rattle.fk_trial.specs.Replay.{no_children, children_behind, IsAnswer, AreAnswers, IsNewHost, IsReplay, IsTrialHost}
 
 -- one answer more

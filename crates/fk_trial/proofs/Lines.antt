@@ -3,7 +3,7 @@ use Rattle.std.proofs.Common.{◌≡◌, ℕ, ◌<◌, Bool, true, false, not, �
 use Rattle.fk_trace.specs.Decision.{FeedTurn}
 use Rattle.fk_run.specs.Place.{Place, entry}
 use Rattle.fk_run.specs.Turn.{TakenTurn, after_turns}
-use Rattle.fk_host.specs.Stock.{Stock}
+use Rattle.fk_memory.specs.Stock.{Stock}
 use Rattle.fk_input.specs.Reading.{Reading, IsBounded, rest, TakesLine}
 use Rattle.fk_log.specs.Printing.{SinkView}
 use Rattle.fk_log.specs.Writing.{output}

@@ -3,7 +3,7 @@ use Rattle.std.proofs.Common.{◌≡◌, false, List, [], refl, ap, ◌∙◌, s
 use Rattle.fk_trace.specs.declared.change.Change.{Change}
 use Rattle.fk_run.specs.Place.{entry}
 use Rattle.fk_host.specs.Disk.{Areas, Above, IfTold}
-use Rattle.fk_host.specs.Medium.{Memory, told_of, leaves_of, above_of, areas_after}
+use Rattle.fk_memory.specs.Medium.{Memory, told_of, leaves_of, above_of, areas_after}
 use Rattle.fk_conf.specs.declared.conf.Conf.{Conf}
 use Rattle.fk_ledger.specs.Book.{Book}
 use Rattle.fk_ledger.specs.Holds.{HoldsLedger, KeepsLedger}

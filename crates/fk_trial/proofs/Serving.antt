@@ -7,8 +7,8 @@ use Rattle.fk_run.specs.Turn.{after_turn}
 use Rattle.fk_host.specs.Disk.{Told as TellsOf, IfTold}
 use Rattle.fk_host.specs.Count.{counted}
 use Rattle.fk_host.specs.Stream.{Gives}
-use Rattle.fk_host.specs.Medium.{Memory, told_of, areas_after}
-use Rattle.fk_host.specs.Stock.{Stock}
+use Rattle.fk_memory.specs.Medium.{Memory, told_of, areas_after}
+use Rattle.fk_memory.specs.Stock.{Stock}
 use Rattle.fk_log.specs.Line.{Line}
 use Rattle.fk_log.specs.Log.{turn_lines}
 use Rattle.fk_log.specs.Log.RefusalLine.{Told}

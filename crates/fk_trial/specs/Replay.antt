@@ -4,8 +4,8 @@ use Rattle.fk_trace.specs.Trace.{Event, Item}
 use Rattle.fk_trace.specs.Trace.Event.{Turn, Began, StartFailed, Ended, Runs, PollFailed}
 use Rattle.fk_host.specs.declared.host.StartErr.TheVariants.{Failed as NotStarted}
 use Rattle.fk_host.specs.Host.{is_running}
-use Rattle.fk_host.specs.Children.{Children, above_children, start_answer, poll_answer, children_after}
-use Rattle.fk_host.specs.Medium.{Memory}
+use Rattle.fk_memory.specs.Children.{Children, above_children, start_answer, poll_answer, children_after}
+use Rattle.fk_memory.specs.Medium.{Memory}
 
 -- the children of a new host: none, and nothing is scripted
 abbrev pub no_children : Children

@@ -13,7 +13,7 @@ use Rattle.fk_run.specs.Legal.{LegalTurns}
 use Rattle.fk_host.specs.declared.stream.Source.{Ghosts as SourceMeaning}
 use Rattle.fk_host.specs.declared.stream.Sink.{Ghosts as SinkMeaning}
 use Rattle.fk_host.specs.Count.{counted}
-use Rattle.fk_host.specs.Medium.{Memory, told_of, leaves_of, above_of}
+use Rattle.fk_memory.specs.Medium.{Memory, told_of, leaves_of, above_of}
 use Rattle.fk_input.specs.Lines.{input_limit}
 use Rattle.fk_input.specs.Reading.{rest}
 use Rattle.fk_input.specs.Progress.{HasRead}

@@ -15,10 +15,11 @@ use crate::line::read_turn;
 use crate::trial_host::TrialHost;
 use fk_base::{NoMemory, Status};
 use fk_conf::Conf;
-use fk_host::{MemSink, Sink, Source, unscripted_children_end_well, write_all};
+use fk_host::{Sink, Source, write_all};
 use fk_input::{LineReader, NextLine};
 use fk_ledger::{Ledger, no_area_holds_two_ledgers};
 use fk_log::{LogItem, LogWriter, no_lines_log_nothing};
+use fk_memory::{MemSink, unscripted_children_end_well};
 use fk_turn::{Daemon, Policy};
 use std::alloc::Global;
 

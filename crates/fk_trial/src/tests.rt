@@ -3,8 +3,8 @@ use crate::{TrialTask, trial, trials_are_determined, trials_of_one_input_have_on
 use fk_access::{Access, AccessErr, read_access};
 use fk_base::Status;
 use fk_conf::{Conf, ConfErr, read_conf};
-use fk_host::{MemSink, MemSource};
 use fk_log::Verbosity;
+use fk_memory::{MemSink, MemSource};
 use fk_turn::Policy;
 use std::alloc::Global;
 use std::process::Abort;

@@ -1,11 +1,12 @@
 //! The host of a trial.
 ghost use Rattle.std.specs.Prelude.{◌≡◌, IfOk};
-ghost use Rattle.fk_host.specs.Medium.{told_of, leaves_of, above_of};
-ghost use Rattle.fk_host.specs.Sound.{told_is_left};
+ghost use Rattle.fk_memory.specs.Medium.{told_of, leaves_of, above_of};
+ghost use Rattle.fk_memory.specs.Sound.{told_is_left};
 ghost use Rattle.fk_trial.specs.Replay.{IsNewHost, IsTrialHost};
 
 use fk_base::{Failed, NoMemory, Purpose, Words};
-use fk_host::{Area, ChildId, Disk, Host, MemHost, StartErr};
+use fk_host::{Area, ChildId, Disk, Host, StartErr};
+use fk_memory::MemHost;
 use std::alloc::Global;
 use std::marker::Model;
 
@@ -16,7 +17,7 @@ pub(crate) struct TrialHost {
 }
 
 impl Model for TrialHost {
-    ghost use Rattle.fk_host.specs.Medium.{Memory};
+    ghost use Rattle.fk_memory.specs.Medium.{Memory};
     ghost use Rattle.fk_trial.specs.Replay.{IsTrialHost};
 
     ghost Value = { Memory };

@@ -5,8 +5,8 @@
 
 use fk_base::{NoMemory, Status, Words};
 use fk_client::fwknop_run;
-use fk_host::{DirFiles, StdSink, SysEntropy, UdpLink, system_moment};
 use fk_program::argument_words;
+use fk_system::{DirFiles, StdSink, SysEntropy, UdpLink, system_moment};
 use std::io;
 use std::process::ExitCode;
 

@@ -4,9 +4,9 @@
 #![tactic(auto)]
 
 use fk_base::{NoMemory, Status, Words};
-use fk_serve::fwknopd_run;
-use fk_host::{DirFiles, StdSink, StdSource, SysHost, UdpFeed};
 use fk_program::argument_words;
+use fk_serve::fwknopd_run;
+use fk_system::{DirFiles, StdSink, StdSource, SysHost, UdpFeed};
 use std::io;
 use std::process::ExitCode;
 

@@ -1,5 +1,5 @@
 use Rattle.std.proofs.Common.{◌≡◌, false, Option, Some, refl, sym, ap, ◌∙◌, subst}
-use Rattle.fk_host.specs.Stock.{Stock}
+use Rattle.fk_memory.specs.Stock.{Stock}
 use Rattle.fk_log.specs.Printing.{sink_by}
 use Rattle.fk_log.specs.Writing.{output}
 use Rattle.fk_turn.specs.Rules.{turn_of}

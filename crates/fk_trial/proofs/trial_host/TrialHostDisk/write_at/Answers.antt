@@ -1,7 +1,7 @@
 use Rattle.std.proofs.Common.{length, subst}
 use Rattle.std.specs.Prelude.{OnOk}
 use Rattle.fk_host.specs.Disk.{Written, Torn, InArea, Calls}
-use Rattle.fk_host.specs.Medium.{Memory, told_of, leaves_of}
+use Rattle.fk_memory.specs.Medium.{Memory, told_of, leaves_of}
 use Rattle.fk_trial.proofs.trial_host.TrialHostDisk.write_at.Goals as goal
 
 pub returns-clause-ok : goal.returns-clause-ok

@@ -1,6 +1,6 @@
 use Rattle.std.proofs.Common.{IsTrue, sym, subst}
 use Rattle.fk_host.specs.Host.{is_running}
-use Rattle.fk_host.specs.Medium.{Memory, above_of}
+use Rattle.fk_memory.specs.Medium.{Memory, above_of}
 use Rattle.fk_trial.proofs.HostCalls.{kept-poll}
 use Rattle.fk_trial.proofs.trial_host.TrialHostHost.poll.Goals as goal
 

@@ -1,5 +1,0 @@
-use Rattle.fk_host.proofs.Unscripted.{starts, polls, stays, turns, ends}
-use Rattle.fk_host.proofs.laws.unscripted_children_end_well.Goals as goal
-
-pub returns : goal.returns
-returns c = record { starts = starts; polls = polls; stays = stays; turns = turns; ends = ends }

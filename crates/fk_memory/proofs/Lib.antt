@@ -1,0 +1,10 @@
+mod Sources
+mod Mediums
+mod Moments
+mod MemoryCalls
+mod MediumRow
+mod Fates
+mod MemoryHosts
+mod Queues
+mod Unscripted
+mod HostRow

@@ -1,0 +1,20 @@
+use Rattle.fk_memory.proofs.MemoryCalls.{cut_ok, cut_err, leaves_host, has_cause}
+use Rattle.fk_memory.specs.Medium.{fails_next}
+use Rattle.fk_memory.specs.declared.host.Call.TheVariants.{Cut as Cuts}
+use Rattle.fk_memory.proofs.host.MemHostDisk.cut.Goals as goal
+
+pub returns : goal.returns
+returns c =
+    let old = c.args.self.now in
+    let new = c.shorten.new.self in
+    let failed = fails_next old in
+    let says = c.shorten.ensures.result in
+    let state = c.shorten.ensures.state in
+    record {
+      ok = cut_ok old new c.args.area c.args.len failed c.shorten.result says state;
+      err = cut_err old new c.args.area c.args.len failed c.shorten.result says state;
+      host = leaves_host old new (Cuts c.args.area c.args.len failed) failed state;
+      cause = has_cause old new (Cuts c.args.area c.args.len failed) failed c.shorten.result says state;
+      result = says;
+      state = state;
+    }

@@ -1,0 +1,10 @@
+pub mod Supply
+pub mod Stock
+pub mod Shelf
+pub mod Queue
+pub mod Outbox
+pub mod Pool
+pub mod Medium
+pub mod Sound
+pub mod Children
+pub mod HostRecord

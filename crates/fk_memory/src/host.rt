@@ -1,0 +1,544 @@
+//! A host in memory: its disk keeps each call, so that what a crash at any moment may leave can be told, and its children fare as
+//! they were scripted.
+ghost use Rattle.std.specs.Prelude.{◌≡◌, ℕ, ◌+◌, ◌^◌, ◌<◌, ◌≤◌, Some, IsTrue, ◌||◌, ◌==◌, min, true, false, [], ◌∷◌, ◌++◌, if◌then◌else◌, length, take, drop, is_err, IfOk, OnErr, OnOk, IfSome};
+ghost use Rattle.std.specs.List.{list_any};
+ghost use Rattle.std.specs.Option.{ForSome};
+ghost use Rattle.fk_host.specs.Count.{counted, HasCause};
+ghost use Rattle.fk_host.specs.Disk.{area_of, Written, Torn, Cut, Same, InArea, Synced, Calls, LeavesHost};
+ghost use Rattle.fk_memory.specs.Medium.{Medium, medium_after, areas_after, after_call, overwritten, MayHold, told_of, leaves_of, above_of, fails_next, fails_to_write, after_disk_call, after_call_above, reads_after, texts};
+ghost use Rattle.fk_trace.specs.Trace.Event.{Turn};
+ghost use Rattle.fk_host.specs.Host.{brought_by_start, brought_by_poll, CallsAbove, above_after, above_by, is_running};
+ghost use Rattle.fk_memory.specs.Children.{start_answer, poll_answer};
+ghost use Rattle.fk_memory.specs.HostRecord.{event_of};
+ghost use Rattle.fk_memory.specs.declared.host.Call.TheVariants.{Other, Write as Writes, Cut as Cuts, Sync as Syncs};
+ghost use Rattle.fk_memory.specs.Sound.{told_is_left};
+
+use crate::StartScript;
+use crate::children::MemChildren;
+use crate::trace::{HostEvent, KeptItem};
+use fk_base::{Bytes, Failed, NoMemory, Purpose, Words};
+use fk_host::{Area, ChildId, Disk, Host, StartErr};
+use std::alloc::Global;
+use std::marker::Model;
+
+/// A write that ends past this place is a fault.
+const GREATEST_END: u64 = 1 << 40;
+
+/// What one call of a host did to the disk.
+#[derive(Drop)]
+pub enum Call {
+    /// It left the areas as they were.
+    Other,
+    Write {
+        area: Area,
+        at: u64,
+        bytes: Bytes,
+        failed: bool,
+    },
+    Cut {
+        area: Area,
+        len: u64,
+        failed: bool,
+    },
+    Sync {
+        area: Area,
+        failed: bool,
+    },
+}
+
+/// The bytes of the three areas.
+#[derive(Drop)]
+struct Texts {
+    head: Vec<u8>,
+    one: Vec<u8>,
+    two: Vec<u8>,
+}
+
+impl Texts {
+    fn copy(alloc: Global, head: &[u8], one: &[u8], two: &[u8]) -> Result<Self, NoMemory>
+        ensures { IfOk result (λ t. texts t ≡ record { head = head.now; one = one.now; two = two.now }) }
+    {
+        Ok(Texts {
+            head: Vec::from_slice(alloc, head)?,
+            one: Vec::from_slice(alloc, one)?,
+            two: Vec::from_slice(alloc, two)?,
+        })
+    }
+
+    fn text(&self, area: Area) -> &[u8]
+        ensures { result.now ≡ area_of area (texts self.now) }
+    {
+        match area {
+            Area::Head => self.head.as_slice(),
+            Area::One => self.one.as_slice(),
+            Area::Two => self.two.as_slice(),
+        }
+    }
+
+    fn apply(&mut self, call: &Call) -> Result<(), NoMemory>
+        ensures { OnOk result ((self.new.head.items ≡ reads_after Area.Head call.now self.old.head.items)
+            × (self.new.one.items ≡ reads_after Area.One call.now self.old.one.items)
+            × (self.new.two.items ≡ reads_after Area.Two call.now self.old.two.items)) }
+    {
+        apply_to(Area::Head, call, &mut self.head)?;
+        apply_to(Area::One, call, &mut self.one)?;
+        apply_to(Area::Two, call, &mut self.two)
+    }
+}
+
+/// Does to the bytes of an area what the call did to it.
+fn apply_to(area: Area, call: &Call, bytes: &mut Vec<u8>) -> Result<(), NoMemory>
+    ensures { OnOk result (bytes.new.items ≡ reads_after area call.now bytes.old.items) }
+{
+    match call {
+        Call::Write {
+            area: of,
+            at,
+            bytes: piece,
+            failed: false,
+        } if *of == area => overwrite(bytes, *at, piece.as_slice()),
+        Call::Cut {
+            area: of,
+            len,
+            failed: false,
+        } if *of == area => {
+            bytes.truncate(*len as usize);
+            Ok(())
+        }
+        _ => Ok(()),
+    }
+}
+
+/// Writes the piece over the bytes at a place, or at their end where they are shorter.
+fn overwrite(bytes: &mut Vec<u8>, place: u64, piece: &[u8]) -> Result<(), NoMemory>
+    ensures { OnOk result (bytes.new.items ≡ overwritten (min place (length bytes.old.items)) piece.now bytes.old.items) }
+{
+    let at = bytes.len().min(place as usize);
+    let inside = piece.len().min(bytes.len() - at);
+    bytes.extend_from_slice(&piece[inside..])?;
+    bytes[at..at + inside].copy_from_slice(&piece[..inside]);
+    Ok(())
+}
+
+/// A host in memory. It tells its trace, what its disk gives, and what a crash at each of its moments may leave. Its children are
+/// numbered 1, 2, 3 and so on.
+#[derive(Drop)]
+pub struct MemHost {
+    alloc: Global,
+    first: Texts,
+    // what a read gives
+    present: Texts,
+    calls: Vec<Call>,
+    disk_calls: u64,
+    failing: Vec<u64>,
+    faults: u64,
+    trace: Vec<KeptItem>,
+    children: MemChildren,
+    is_short: bool,
+}
+
+impl Model for MemHost {
+    ghost use Rattle.std.specs.Prelude.{◌≡◌, ◌≤◌, false, length};
+    ghost use Rattle.fk_memory.specs.Medium.{Memory, texts, areas_after};
+    ghost use Rattle.fk_memory.specs.HostRecord.{children_of, CountsWithin};
+
+    ghost Value = { Memory };
+
+    ghost view = { λ h. record { first = texts h.first; calls = h.calls.items; disk_calls = h.disk_calls; failing = h.failing.items; faults = h.faults; trace = h.trace.items; children = children_of h.children; is_short = h.is_short } };
+
+    ghost invariant = { λ h. (h.is_short ≡ false → texts h.present ≡ areas_after (texts h.first) h.calls.items) × (h.disk_calls ≤ length h.calls.items) × CountsWithin h.children (length h.calls.items) };
+}
+
+impl MemHost {
+    /// A host whose areas have these bytes, all of them on the disk, and of whose calls none is to fail.
+    pub fn new(alloc: Global, head: &[u8], one: &[u8], two: &[u8]) -> Result<Self, NoMemory>
+        ensures { IfOk result (λ h. h ≡ record {
+          first = record { head = head.now; one = one.now; two = two.now };
+          calls = [];
+          disk_calls = 0;
+          failing = [];
+          faults = 0;
+          trace = [];
+          children = record { script = []; turns = 0; running = []; begun = 0; polls = 0; failing = []; faults = 0 };
+          is_short = false;
+        }) }
+    {
+        Ok(MemHost {
+            alloc,
+            first: Texts::copy(alloc, head, one, two)?,
+            present: Texts::copy(alloc, head, one, two)?,
+            calls: Vec::new(alloc),
+            disk_calls: 0,
+            failing: Vec::new(alloc),
+            faults: 0,
+            trace: Vec::new(alloc),
+            children: MemChildren::new(alloc),
+            is_short: false,
+        })
+    }
+
+    /// Makes the call of the disk of this number fail, counted from 1.
+    pub fn fail_disk(&mut self, call: u64) -> Result<(), NoMemory>
+        ensures ok { OnOk result (self.new ≡ record self.old { failing = self.old.failing ++ call ∷ [] }) }
+        ensures err { OnErr result (self.new ≡ self.old) }
+    {
+        self.failing.push(call)?;
+        Ok(())
+    }
+
+    /// Adds how a start fares, behind what was added before. Past all of these each child begins, and ends well after one turn.
+    pub fn script(&mut self, item: StartScript) -> Result<(), NoMemory>
+        ensures ok { OnOk result (self.new ≡ record self.old { children = record self.old.children { script = self.old.children.script ++ item ∷ [] } }) }
+        ensures err { OnErr result (self.new ≡ self.old) }
+    {
+        self.children.script.push(item)?;
+        Ok(())
+    }
+
+    /// Makes the poll of this number fail, counted from 1.
+    pub fn fail_poll(&mut self, call: u64) -> Result<(), NoMemory>
+        ensures ok { OnOk result (self.new ≡ record self.old { children = record self.old.children { failing = self.old.children.failing ++ call ∷ [] } }) }
+        ensures err { OnErr result (self.new ≡ self.old) }
+    {
+        self.children.failing.push(call)?;
+        Ok(())
+    }
+
+    /// How many calls of the host were kept. After each of them a crash may come.
+    pub fn moments(&self) -> u64
+        ensures { result ≡ length self.now.calls }
+    {
+        self.calls.len() as u64
+    }
+
+    /// Whether the host couldn't grow for its own record. It then tells nothing more, each further call of the disk and each poll
+    /// fails, and each start answers want of memory.
+    pub fn is_short(&self) -> bool
+        ensures { result ≡ self.now.is_short }
+    {
+        self.is_short
+    }
+
+    /// What a crash after so many calls may leave of an area: with every write since the last sync, or with none of them.
+    pub fn image(&self, moment: u64, area: Area, keep: bool) -> Result<Bytes, NoMemory>
+        requires past { moment ≤ length self.now.calls }
+        requires told { self.now.is_short ≡ false }
+        ensures bytes { let medium = medium_after self.now.first (take moment self.now.calls) area in
+            IfOk result (λ bytes. bytes ≡ (if keep then medium.reads else medium.synced)) }
+        ensures left { IfOk result (λ bytes. MayHold (medium_after self.now.first (take moment self.now.calls) area) bytes) }
+    {
+        self.replayed(moment, area, keep)
+    }
+
+    fn replayed(&self, moment: u64, area: Area, keep: bool) -> Result<Bytes, NoMemory>
+        requires { moment ≤ length self.now.calls }
+        ensures { let medium = medium_after self.now.first (take moment self.now.calls) area in
+            IfOk result (λ bytes. bytes ≡ (if keep then medium.reads else medium.synced)) }
+    {
+        let first = self.first.text(area);
+        let mut reads = Vec::from_slice(self.alloc, first)?;
+        let mut synced = Vec::from_slice(self.alloc, first)?;
+        for call in &self.calls[..moment as usize] {
+            replay(area, call, &mut reads, &mut synced)?;
+        }
+        Ok(Bytes::from(if keep { reads } else { synced }))
+    }
+
+    fn fails_next(&self) -> bool
+        ensures { result ≡ fails_next self.now }
+    {
+        self.is_short || self.is_told_to_fail()
+    }
+
+    fn is_told_to_fail(&self) -> bool
+        ensures { result ≡ list_any (λ call. call == self.now.disk_calls + 1) self.now.failing }
+    {
+        let next = self.disk_calls + 1;
+        self.failing.iter().any(|call| *call == next)
+    }
+
+    fn measure(&mut self, area: Area) -> Result<u64, Failed>
+        ensures len { IfOk result (λ n. n ≡ length (area_of area (areas_after self.old.first self.old.calls))) }
+        ensures result { is_err result ≡ (fails_next self.old || self.new.is_short) }
+        ensures state { self.new ≡ after_disk_call Other (fails_next self.old) self.new.is_short self.old }
+    {
+        let failed = self.fails_next();
+        self.make(Call::Other, failed)?;
+        Ok(self.present.text(area).len() as u64)
+    }
+
+    fn copy_out(&mut self, area: Area, at: u64, buf: &mut [u8]) -> Result<usize, Failed>
+        ensures within { IfOk result (λ n. n ≤ length buf.new) }
+        ensures bytes { IfOk result (λ n. take n buf.new ≡ take (length buf.old) (drop at (area_of area (areas_after self.old.first self.old.calls)))) }
+        ensures result { is_err result ≡ (fails_next self.old || self.new.is_short) }
+        ensures state { self.new ≡ after_disk_call Other (fails_next self.old) self.new.is_short self.old }
+    {
+        let failed = self.fails_next();
+        self.make(Call::Other, failed)?;
+        Ok(copy_front(self.present.text(area), at, buf))
+    }
+
+    fn write(&mut self, area: Area, at: u64, bytes: &[u8]) -> Result<(), Failed>
+        ensures result { is_err result ≡ (fails_to_write self.old (at + length bytes.now) || self.new.is_short) }
+        ensures state { let failed = fails_to_write self.old (at + length bytes.now) in
+            self.new ≡ after_disk_call (Writes area at bytes.now failed) failed self.new.is_short self.old }
+    {
+        let failed = self.fails_next() || at.saturating_add(bytes.len() as u64) > GREATEST_END;
+        match Bytes::copy(self.alloc, bytes) {
+            Ok(bytes) => self.make(
+                Call::Write {
+                    area,
+                    at,
+                    bytes,
+                    failed,
+                },
+                failed,
+            ),
+            Err(NoMemory) => self.give_up(),
+        }
+    }
+
+    fn shorten(&mut self, area: Area, len: u64) -> Result<(), Failed>
+        ensures result { is_err result ≡ (fails_next self.old || self.new.is_short) }
+        ensures state { self.new ≡ after_disk_call (Cuts area len (fails_next self.old)) (fails_next self.old) self.new.is_short self.old }
+    {
+        let failed = self.fails_next();
+        self.make(Call::Cut { area, len, failed }, failed)
+    }
+
+    fn settle(&mut self, area: Area) -> Result<(), Failed>
+        ensures result { is_err result ≡ (fails_next self.old || self.new.is_short) }
+        ensures state { self.new ≡ after_disk_call (Syncs area (fails_next self.old)) (fails_next self.old) self.new.is_short self.old }
+    {
+        let failed = self.fails_next();
+        self.make(Call::Sync { area, failed }, failed)
+    }
+
+    /// The host can't grow.
+    fn give_up(&mut self) -> Result<(), Failed>
+        ensures result { is_err result ≡ true }
+        ensures state { self.new ≡ record self.old { faults = counted self.old.faults; is_short = true } }
+    {
+        self.is_short = true;
+        self.faults = self.faults.saturating_add(1);
+        Err(Failed)
+    }
+
+    /// Makes a call of the disk, which fails where it is told to.
+    fn make(&mut self, call: Call, failed: bool) -> Result<(), Failed>
+        ensures result { is_err result ≡ (failed || self.new.is_short) }
+        ensures state { self.new ≡ after_disk_call call failed self.new.is_short self.old }
+    {
+        if self.is_short || self.calls.reserve(1).is_err() || self.present.apply(&call).is_err() {
+            self.is_short = true;
+            self.faults = self.faults.saturating_add(1);
+            return Err(Failed);
+        }
+        self.calls.push_reserved(call);
+        self.disk_calls += 1;
+        if failed {
+            self.faults = self.faults.saturating_add(1);
+            return Err(Failed);
+        }
+        Ok(())
+    }
+}
+
+impl MemHost {
+    /// Keeps a call above the disk, with what it brought.
+    fn keep(&mut self, event: HostEvent) -> Result<(), NoMemory>
+        ensures result { is_err result ≡ self.new.is_short }
+        ensures state { self.new ≡ (if self.new.is_short then record self.old { is_short = true } else after_call_above (Some (event_of event)) false self.old) }
+    {
+        if self.is_short
+            || self.calls.reserve(1).is_err()
+            || self.trace.reserve(1).is_err()
+            || self.children.running.reserve(1).is_err()
+        {
+            self.is_short = true;
+            return Err(NoMemory);
+        }
+        self.children.note(&event);
+        self.trace.push_reserved(KeptItem {
+            event,
+            moments: self.calls.len() as u64 + 1,
+            faults: self.faults,
+        });
+        self.calls.push_reserved(Call::Other);
+        Ok(())
+    }
+
+    fn begin(&mut self, purpose: Purpose, words: &Words) -> Result<ChildId, StartErr>
+        ensures answer { result ≡ start_answer self.new.is_short self.old.children }
+        ensures state { self.new ≡ after_call_above (brought_by_start purpose words.now result) self.new.is_short self.old }
+    {
+        let answer = self.children.next_start();
+        match HostEvent::of_start(self.alloc, purpose, words, answer) {
+            Ok(event) => self.keep(event)?,
+            Err(NoMemory) => {
+                self.is_short = true;
+                return Err(StartErr::NoMemory);
+            }
+        }
+        answer
+    }
+
+    fn ask(&mut self, child: ChildId) -> Result<Option<bool>, Failed>
+        ensures answer { result ≡ poll_answer self.new.is_short child.0 self.old.children }
+        ensures state { self.new ≡ after_call_above (brought_by_poll child.0 result) self.new.is_short self.old }
+    {
+        let answer = self.children.next_poll(child);
+        if self.keep(HostEvent::of_poll(child, answer)).is_err() {
+            self.children.faults = self.children.faults.saturating_add(1);
+            return Err(Failed);
+        }
+        answer
+    }
+}
+
+impl Disk for MemHost {
+    ghost told = { told_of };
+
+    ghost may_leave = { leaves_of };
+
+    ghost faults = { λ h. h.faults };
+
+    ghost above = { above_of };
+
+    ghost read_is_an_image = { told_is_left };
+
+    fn len(&mut self, area: Area) -> Result<u64, Failed>
+        ensures len { IfOk result (λ n. IfSome (told_of self.new) (λ now. n ≡ length (area_of area now.areas))) }
+        ensures call { Calls told_of leaves_of self.old self.new Same Same }
+        ensures host { LeavesHost told_of above_of self.old self.new }
+        ensures cause { HasCause self.old.faults self.new.faults result }
+        // It fails where it is told to, and where the host becomes short.
+        ensures result { is_err result ≡ (fails_next self.old || self.new.is_short) }
+        ensures state { self.new ≡ after_disk_call Other (fails_next self.old) self.new.is_short self.old }
+    {
+        self.measure(area)
+    }
+
+    fn read(&mut self, area: Area, at: u64, buf: &mut [u8]) -> Result<usize, Failed>
+        ensures within { IfOk result (λ n. n ≤ length buf.new) }
+        ensures bytes { IfOk result (λ n. IfSome (told_of self.new) (λ now. take n buf.new ≡ take (length buf.old) (drop at (area_of area now.areas)))) }
+        ensures call { Calls told_of leaves_of self.old self.new Same Same }
+        ensures host { LeavesHost told_of above_of self.old self.new }
+        ensures cause { HasCause self.old.faults self.new.faults result }
+        // It fails where it is told to, and where the host becomes short.
+        ensures result { is_err result ≡ (fails_next self.old || self.new.is_short) }
+        ensures state { self.new ≡ after_disk_call Other (fails_next self.old) self.new.is_short self.old }
+    {
+        self.copy_out(area, at, buf)
+    }
+
+    fn write_at(&mut self, area: Area, at: u64, bytes: &[u8]) -> Result<(), Failed>
+        requires { ForSome (told_of self.old) (λ now. at ≤ length (area_of area now.areas)) }
+        ensures within { OnOk result (at + length bytes.now ≤ 2 ^ 40) }
+        ensures ok { OnOk result (Calls told_of leaves_of self.old self.new (InArea area (Written at bytes.now)) (InArea area (Torn at (length bytes.now)))) }
+        ensures err { OnErr result (Calls told_of leaves_of self.old self.new (InArea area (Torn at (length bytes.now))) (InArea area (Torn at (length bytes.now)))) }
+        ensures host { LeavesHost told_of above_of self.old self.new }
+        ensures cause { HasCause self.old.faults self.new.faults result }
+        // It fails where it is told to, where it would end past 2^40, and where the host becomes short.
+        ensures result { is_err result ≡ (fails_to_write self.old (at + length bytes.now) || self.new.is_short) }
+        ensures state { let failed = fails_to_write self.old (at + length bytes.now) in
+            self.new ≡ after_disk_call (Writes area at bytes.now failed) failed self.new.is_short self.old }
+    {
+        self.write(area, at, bytes)
+    }
+
+    fn cut(&mut self, area: Area, len: u64) -> Result<(), Failed>
+        requires { ForSome (told_of self.old) (λ now. len ≤ length (area_of area now.areas)) }
+        ensures ok { OnOk result (Calls told_of leaves_of self.old self.new (InArea area (λ old new. new ≡ take len old)) (InArea area (Cut len))) }
+        ensures err { OnErr result (Calls told_of leaves_of self.old self.new (InArea area (Cut len)) (InArea area (Cut len))) }
+        ensures host { LeavesHost told_of above_of self.old self.new }
+        ensures cause { HasCause self.old.faults self.new.faults result }
+        // It fails where it is told to, and where the host becomes short.
+        ensures result { is_err result ≡ (fails_next self.old || self.new.is_short) }
+        ensures state { self.new ≡ after_disk_call (Cuts area len (fails_next self.old)) (fails_next self.old) self.new.is_short self.old }
+    {
+        self.shorten(area, len)
+    }
+
+    fn sync(&mut self, area: Area) -> Result<(), Failed>
+        ensures ok { OnOk result (IfSome (told_of self.new) (λ now. Calls told_of leaves_of self.old self.new Same (Synced area now.areas))) }
+        ensures err { OnErr result (Calls told_of leaves_of self.old self.new Same Same) }
+        ensures host { LeavesHost told_of above_of self.old self.new }
+        ensures cause { HasCause self.old.faults self.new.faults result }
+        // It fails where it is told to, and where the host becomes short.
+        ensures result { is_err result ≡ (fails_next self.old || self.new.is_short) }
+        ensures state { self.new ≡ after_disk_call (Syncs area (fails_next self.old)) (fails_next self.old) self.new.is_short self.old }
+    {
+        self.settle(area)
+    }
+}
+
+impl Host for MemHost {
+    fn turn(&mut self, number: u64)
+        ensures call { CallsAbove told_of leaves_of (λ h. h.faults) (Some (Turn number)) self.old self.new }
+        ensures above { above_of self.new ≡ above_after (Turn number) (above_of self.old) }
+        ensures disk { self.new.faults ≡ self.old.faults }
+        ensures state { self.new ≡ after_call_above (Some (Turn number)) self.new.is_short self.old }
+    {
+        let _ = self.keep(HostEvent::Turn(number));
+    }
+
+    fn start(&mut self, purpose: Purpose, words: &Words) -> Result<ChildId, StartErr>
+        requires { 0 < length words.now }
+        ensures number { IfOk result (λ child. (above_of self.old).last_child < child.0) }
+        ensures call { CallsAbove told_of leaves_of (λ h. h.faults) (brought_by_start purpose words.now result) self.old self.new }
+        ensures above { above_of self.new ≡ above_by (brought_by_start purpose words.now result) (above_of self.old) }
+        ensures disk { self.new.faults ≡ self.old.faults }
+        // It answers as the script says, and want of memory exactly where the host becomes or is short.
+        ensures answer { result ≡ start_answer self.new.is_short self.old.children }
+        ensures state { self.new ≡ after_call_above (brought_by_start purpose words.now result) self.new.is_short self.old }
+    {
+        self.begin(purpose, words)
+    }
+
+    fn poll(&mut self, child: ChildId) -> Result<Option<bool>, Failed>
+        requires { IsTrue (is_running child.0 (above_of self.old)) }
+        ensures call { CallsAbove told_of leaves_of (λ h. h.faults) (brought_by_poll child.0 result) self.old self.new }
+        ensures above { above_of self.new ≡ above_by (brought_by_poll child.0 result) (above_of self.old) }
+        ensures disk { self.new.faults ≡ self.old.faults }
+        // It fails where it is told to, and where the host becomes or is short; else it answers as the script says.
+        ensures answer { result ≡ poll_answer self.new.is_short child.0 self.old.children }
+        ensures state { self.new ≡ after_call_above (brought_by_poll child.0 result) self.new.is_short self.old }
+    {
+        self.ask(child)
+    }
+}
+
+/// Copies the bytes of a text from a place on to the front of the buffer, as many as there are and fit.
+fn copy_front(text: &[u8], at: u64, buf: &mut [u8]) -> usize
+    ensures within { result ≤ length buf.new }
+    ensures bytes { take result buf.new ≡ take (length buf.old) (drop at text.now) }
+{
+    let rest = &text[text.len().min(at as usize)..];
+    let count = rest.len().min(buf.len());
+    buf[..count].copy_from_slice(&rest[..count]);
+    count
+}
+
+/// Does to what a read gives of the area, and to what of it is synced, what the call did.
+fn replay(
+    area: Area,
+    call: &Call,
+    reads: &mut Vec<u8>,
+    synced: &mut Vec<u8>,
+) -> Result<(), NoMemory>
+    ensures { (medium : Medium) → medium.reads ≡ reads.old.items → medium.synced ≡ synced.old.items
+        → OnOk result (((after_call area call.now medium).reads ≡ reads.new.items) × ((after_call area call.now medium).synced ≡ synced.new.items)) }
+{
+    apply_to(area, call, reads)?;
+    if let Call::Sync {
+        area: of,
+        failed: false,
+    } = call
+        && *of == area
+    {
+        synced.clear();
+        synced.extend_from_slice(reads)?;
+    }
+    Ok(())
+}
