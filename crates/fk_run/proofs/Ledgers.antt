@@ -1,15 +1,16 @@
 -- What a list of changes is that is a ledger, and what one more change leaves of its live records.
-use Rattle.std.proofs.Common.{◌≡◌, ◌≢◌, ℕ, ◌+◌, ◌<◌, Bool, true, false, not, cond, eqb, List, [], ◌∷◌, ◌++◌, length, map, sym, ap, ◌∙◌, subst, arith, inl, inr, append_assoc, append-nil}
-use Rattle.std.specs.List.{filter, list_any, Contains}
+use Rattle.std.proofs.Common.{◌≡◌, ◌≢◌, ◌⊎◌, ℕ, ◌+◌, ◌<◌, Bool, true, false, not, cond, eqb, List, [], ◌∷◌, ◌++◌, length, map, refl, sym, ap, ◌∙◌, subst, arith, inl, inr, append_assoc, append-nil}
+use Rattle.std.specs.List.{filter, list_any, AllPairs, Contains}
 use Rattle.std.proofs.lemmas.List.{length_push}
-use Rattle.std.proofs.lemmas.List.Elements.{Contains-append_left, Contains-push_cases, filter-append}
-use Rattle.std.proofs.lemmas.Bool.{ne_eqb}
+use Rattle.std.proofs.lemmas.List.Elements.{Contains-append_left, Contains-push_cases, Contains-get_or, filter-append, filter_passes, All-contains}
+use Rattle.std.proofs.lemmas.List.Quantifiers.{all_pairs_push}
+use Rattle.std.proofs.lemmas.Bool.{ne_eqb, eqb-true, eq-eqb}
 use Rattle.fk_trace.specs.declared.change.OpenRecord.{OpenRecord}
 use Rattle.fk_trace.specs.declared.change.Change.{Change}
 use Rattle.fk_trace.specs.declared.change.Change.TheVariants.{Open, Done}
-use Rattle.fk_trace.specs.Ledger.{opens, dones, live, MayFollow, IsLedgerFrom, IsLedger}
-use Rattle.fk_trace.proofs.Lists.{Contains-head, Contains-tail, Contains-cases, Contains-filter, Contains-map, Contains-unmap}
-use Rattle.fk_trace.proofs.Ledgers.{opens-push_done, opens-push_open, dones-push_open, live-push_done}
+use Rattle.fk_trace.specs.Ledger.{Key, key_of, opens, dones, live, seen, next_id, MayFollow, IsLedgerFrom, IsLedger}
+use Rattle.fk_trace.proofs.Lists.{Contains-head, Contains-tail, Contains-cases, Contains-filter, Contains-map, Contains-unmap, list_any-at, list_any-from}
+use Rattle.fk_trace.proofs.Ledgers.{opens-push_done, opens-push_open, dones-push_open, dones-push_done, live-push_done, seen-push_open, next_id-push_open}
 
 -- what the test gives true for stays in a filter
 pub Contains-kept : {X : Type 0} (q : X → Bool) (xs : List X) (x : X) → q x ≡ true → Contains xs x → Contains (filter q xs) x
@@ -73,11 +74,80 @@ numbered-from before (change ∷ changes) numbered is =
 live-opens : (ledger : List Change) (item : OpenRecord) → Contains (live ledger) item → Contains (opens ledger) item
 live-opens ledger item m = Contains-filter (λ (x : OpenRecord). not (list_any (λ id. eqb id x.id) (dones ledger))) (opens ledger) item m
 
--- two live records of a ledger with one number are one
+none-numbered : IsNumbered []
+none-numbered = record { below = λ item k. absurd (omega (arith, k.1)); one = λ x y k l f. absurd (omega (arith, k.1)) }
+
+-- two records of a ledger with one number are one
+pub opens-one : (ledger : List Change) → IsLedger ledger → (a b : OpenRecord) → Contains (opens ledger) a → Contains (opens ledger) b → a.id ≡ b.id → a ≡ b
+opens-one ledger is a b m n e = (numbered-from [] ledger none-numbered is).one a b m n e
+
 pub live-one : (ledger : List Change) → IsLedger ledger → (a b : OpenRecord) → Contains (live ledger) a → Contains (live ledger) b → a.id ≡ b.id → a ≡ b
-live-one ledger is a b m n e =
-    let none : IsNumbered [] = record { below = λ item k. absurd (omega (arith, k.1)); one = λ x y k l f. absurd (omega (arith, k.1)) } in
-    (numbered-from [] ledger none is).one a b (live-opens ledger a m) (live-opens ledger b n) e
+live-one ledger is a b m n e = opens-one ledger is a b (live-opens ledger a m) (live-opens ledger b n) e
+
+-- the numbers of a ledger's records are below the next
+pub recorded-below : (ledger : List Change) → IsLedger ledger → (id : ℕ) → Contains (map (λ item. item.id) (opens ledger)) id → id < next_id ledger
+recorded-below ledger is id m =
+    let at = Contains-unmap (λ (item : OpenRecord). item.id) (opens ledger) id m in
+    let low = (numbered-from [] ledger none-numbered is).below at.0 at.1 in
+    let same = at.2 in
+    omega arith
+
+-- what is settled was recorded, so its number is below the next
+settled-from : (before changes : List Change) → IsNumbered (opens before) → ((id : ℕ) → Contains (dones before) id → id < next_id before) → IsLedgerFrom before changes
+    → (id : ℕ) → Contains (dones (before ++ changes)) id → id < next_id (before ++ changes)
+settled-from before [] numbered below is = subst (λ (ledger : List Change). (id : ℕ) → Contains (dones ledger) id → id < next_id ledger) (sym (append-nil before)) below
+settled-from before (Open item ∷ changes) numbered below is =
+    let next = next_id-push_open before item in
+    subst (λ (ledger : List Change). (id : ℕ) → Contains (dones ledger) id → id < next_id ledger) (append_assoc before (Open item ∷ []) changes)
+    (settled-from (before ++ Open item ∷ []) changes (numbered-push before (Open item) numbered is.0)
+    (λ id m. let low = below id (subst (λ (ids : List ℕ). Contains ids id) (dones-push_open before item) m) in omega arith) is.1)
+settled-from before (Done settled ∷ changes) numbered below is =
+    let at = Contains-unmap (λ (item : OpenRecord). item.id) (live before) settled is.0 in
+    let low = numbered.below at.0 (live-opens before at.0 at.1) in
+    let same = at.2 in
+    let next : next_id (before ++ Done settled ∷ []) ≡ next_id before = ap (λ (items : List OpenRecord). length items + 1) (opens-push_done before settled) in
+    subst (λ (ledger : List Change). (id : ℕ) → Contains (dones ledger) id → id < next_id ledger) (append_assoc before (Done settled ∷ []) changes)
+    (settled-from (before ++ Done settled ∷ []) changes (numbered-push before (Done settled) numbered is.0)
+    (λ id m. elim (Contains-push_cases (dones before) settled id (subst (λ (ids : List ℕ). Contains ids id) (dones-push_done before settled) m)) [
+      | inl earlier ↦ let less = below id earlier in omega arith
+      | inr here ↦ omega (arith, here)
+    ]) is.1)
+
+pub settled-below : (ledger : List Change) → IsLedger ledger → (id : ℕ) → Contains (dones ledger) id → id < next_id ledger
+settled-below ledger is = settled-from [] ledger none-numbered (λ id m. absurd (omega (arith, m.1))) is
+
+-- no two records of a ledger have one key
+apart-from : (before changes : List Change) → AllPairs (λ a b. a ≢ b) (seen before) → IsLedgerFrom before changes → AllPairs (λ a b. a ≢ b) (seen (before ++ changes))
+apart-from before [] apart is = subst (λ (ledger : List Change). AllPairs (λ a b. a ≢ b) (seen ledger)) (sym (append-nil before)) apart
+apart-from before (Open item ∷ changes) apart is =
+    let pushed : AllPairs (λ a b. a ≢ b) (seen before ++ key_of item ∷ []) =
+    all_pairs_push (λ a b. a ≢ b) (seen before) (key_of item) apart
+    (λ k d l same. is.0.1 (subst (λ (key : Key). Contains (seen before) key) same (Contains-get_or (seen before) k d l))) in
+    subst (λ (ledger : List Change). AllPairs (λ a b. a ≢ b) (seen ledger)) (append_assoc before (Open item ∷ []) changes)
+    (apart-from (before ++ Open item ∷ []) changes (subst (λ (keys : List Key). AllPairs (λ a b. a ≢ b) keys) (sym (seen-push_open before item)) pushed) is.1)
+apart-from before (Done settled ∷ changes) apart is =
+    subst (λ (ledger : List Change). AllPairs (λ a b. a ≢ b) (seen ledger)) (append_assoc before (Done settled ∷ []) changes)
+    (apart-from (before ++ Done settled ∷ []) changes (subst (λ (items : List OpenRecord). AllPairs (λ a b. a ≢ b) (map key_of items)) (sym (opens-push_done before settled)) apart) is.1)
+
+pub seen-apart : (ledger : List Change) → IsLedger ledger → AllPairs (λ a b. a ≢ b) (seen ledger)
+seen-apart ledger is = apart-from [] ledger (λ i j d l k. absurd (omega arith)) is
+
+-- a record stays live unless one of these Dones is its own
+pub live-unless_settled : (ledger : List Change) (item : OpenRecord) → Contains (opens ledger) item → Contains (live ledger) item ⊎ Contains (dones ledger) item.id
+live-unless_settled ledger item m =
+    (elim (list_any (λ id. eqb id item.id) (dones ledger)) as (λ b. list_any (λ id. eqb id item.id) (dones ledger) ≡ b → Contains (live ledger) item ⊎ Contains (dones ledger) item.id) [
+      | true ↦ λ t.
+          let at = list_any-at (λ (id : ℕ). eqb id item.id) (dones ledger) t in
+          inr (subst (λ (id : ℕ). Contains (dones ledger) id) (eqb-true at.0 item.id at.2) at.1)
+      | false ↦ λ f. inl (Contains-kept (λ (x : OpenRecord). not (list_any (λ id. eqb id x.id) (dones ledger))) (opens ledger) item (ap not f) m)
+    ]) refl
+
+-- what is live was recorded and isn't settled
+pub live-recorded : (ledger : List Change) (item : OpenRecord) → Contains (live ledger) item → Contains (opens ledger) item × (Contains (dones ledger) item.id → ⊥)
+live-recorded ledger item m =
+    let keeps : OpenRecord → Bool = λ x. not (list_any (λ id. eqb id x.id) (dones ledger)) in
+    let passes : not (list_any (λ id. eqb id item.id) (dones ledger)) ≡ true = All-contains (λ (x : OpenRecord). keeps x ≡ true) (live ledger) item (filter_passes keeps (opens ledger)) m in
+    (live-opens ledger item m, λ settled. let any = list_any-from (λ (id : ℕ). eqb id item.id) (dones ledger) item.id settled (eq-eqb item.id item.id refl) in absurd cc)
 
 -- a record that is live stays it where another is settled, and where one is recorded
 pub live-kept_done : (ledger : List Change) (id other : ℕ) → other ≢ id → Contains (map (λ item. item.id) (live ledger)) other → Contains (map (λ item. item.id) (live (ledger ++ Done id ∷ []))) other

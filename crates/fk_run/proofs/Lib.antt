@@ -12,5 +12,9 @@ pub mod Owed
 pub mod Makes
 pub mod RowParts
 pub mod Cutting
+pub mod Pairs
+pub mod Stays
+pub mod Histories
 mod WorkedRows
 mod LeftRows
+mod HistoryRows

@@ -1,16 +1,31 @@
--- Each turn of a legal run that is not cut short is a whole one, and starts what is owed at it.
-use Rattle.std.proofs.Common.{◌≡◌, false, List, [], refl, sym, ap, ◌∙◌, subst, inl, inr}
+-- A turn that is not cut is a whole one, and starts what is owed at it.
+use Rattle.std.proofs.Common.{◌≡◌, ℕ, ◌≤◌, true, false, List, [], ◌∷◌, ◌++◌, refl, sym, ap, ◌∙◌, subst, arith, inl, inr, append_assoc}
+use Rattle.std.specs.List.{Contains}
+use Rattle.std.proofs.lemmas.Bool.{eqb-true, false_from_ne_true}
+use Rattle.std.proofs.lemmas.Grind.{flat_map-append}
+use Rattle.std.proofs.lemmas.List.Elements.{Contains-append_left}
+use Rattle.fk_base.specs.declared.purpose.Purpose.{Purpose}
+use Rattle.fk_base.specs.declared.purpose.Purpose.TheVariants.{Open, Close}
+use Rattle.fk_trace.specs.declared.change.OpenRecord.{OpenRecord}
 use Rattle.fk_trace.specs.declared.change.Change.{Change}
-use Rattle.fk_trace.specs.Trace.{Item, close_attempted}
-use Rattle.fk_trace.specs.Ledger.{after}
-use Rattle.fk_trace.specs.Decision.{answer}
+use Rattle.fk_trace.specs.Trace.{Event, Item, is_close_of, is_close_attempt_of, close_attempted}
+use Rattle.fk_trace.specs.Trace.Event.{Turn, Began, StartFailed, Ended, Runs, PollFailed}
+use Rattle.fk_trace.specs.Ledger.{opens, live, after, IsLedger}
+use Rattle.fk_trace.specs.Decision.{Rules, answer}
+use Rattle.fk_trace.specs.Attempts.{IsAttempt}
+use Rattle.fk_trace.proofs.Lists.{list_any-at}
+use Rattle.fk_trace.proofs.Splits.{place_of}
+use Rattle.fk_trace.proofs.Ledgers.{opens-append}
 use Rattle.fk_trace.proofs.FirstCloses.{close_attempted-past}
 use Rattle.fk_run.specs.Place.{Place, entry}
-use Rattle.fk_run.specs.Turn.{TakenTurn, WholeTurn, after_turns}
+use Rattle.fk_run.specs.Turn.{TakenTurn, WholeTurn, after_turn, after_turns}
 use Rattle.fk_run.specs.Run.{Run}
 use Rattle.fk_run.specs.Legal.{Legal, LegalTurns}
-use Rattle.fk_run.specs.Headline.{IsWholeTurnOf, StartsWhatIsOwed}
-use Rattle.fk_run.proofs.Fronts.{items_of, past-after_turns, turn-at}
+use Rattle.fk_run.specs.Headline.{IsTurnOf, IsWholeTurnOf, IsLiveIn, IsFirstDue, AttemptedIn, StartsWhatIsOwed}
+use Rattle.fk_run.proofs.Fronts.{items_of, made_by, past-after_turns, ledger-after_turns, AreWhole, front-whole, turn-at, in-turn}
+use Rattle.fk_run.proofs.Ledgers.{ledger-front, opens-one, live-recorded}
+use Rattle.fk_run.proofs.Leaves.{leaves-ledger}
+use Rattle.fk_run.proofs.Closings.{closes-in_turn}
 use Rattle.fk_run.proofs.Turns.{settlements-whole}
 use Rattle.fk_run.proofs.Starts.{starts-open, starts-close, starts-left}
 
@@ -38,3 +53,78 @@ starts-owed run legal front taken at =
           starts-close whole item lives due untried;
       none_left = λ item left. starts-left whole item left;
     }
+
+close-purpose : (id : ℕ) (purpose : Purpose) → is_close_of id purpose ≡ true → purpose ≡ Close id
+close-purpose id (Open other) t = absurd cc
+close-purpose id (Close other) t = ap Close (eqb-true other id t)
+
+-- an attempt of a record's close
+close-attempt : (id : ℕ) (event : Event) → is_close_attempt_of id event ≡ true → (words : List (List ℕ)) × IsAttempt (Close id) words event
+close-attempt id (Turn number) t = absurd cc
+close-attempt id (Began number purpose words) t = (words, (close-purpose id purpose t, refl))
+close-attempt id (StartFailed purpose words) t = (words, (close-purpose id purpose t, refl))
+close-attempt id (Ended number good) t = absurd cc
+close-attempt id (Runs number) t = absurd cc
+close-attempt id (PollFailed number) t = absurd cc
+
+whole-in : (rules : Rules) (place : Place) (front : List TakenTurn) (taken : TakenTurn) (later : List TakenTurn) → AreWhole rules place (front ++ taken ∷ later) → WholeTurn rules (after_turns place front) taken
+whole-in rules place [] taken later whole = whole.0
+whole-in rules place (first ∷ front) taken later whole = whole-in rules (after_turn place first) front taken later whole.1
+
+module _ (run : Run) (legal : Legal run) (is : IsLedger run.ledger) where
+  abbrev ledger_in : List TakenTurn → TakenTurn → List Change
+  ledger_in front taken = after (after_turns (entry run.ledger) front).ledger taken.changes
+
+  -- the ledger as a turn leaves it
+  ledger-in : (front : List TakenTurn) (taken : TakenTurn) → ledger_in front taken ≡ run.ledger ++ (made_by front ++ taken.changes)
+  ledger-in front taken = ap (λ (ledger : List Change). ledger ++ taken.changes) (ledger-after_turns (entry run.ledger) front) ∙ append_assoc run.ledger (made_by front) taken.changes
+
+  is-ledger-in : (front : List TakenTurn) (taken : TakenTurn) (later : List TakenTurn) → run.turns ≡ front ++ taken ∷ later → IsLedger (ledger_in front taken)
+  is-ledger-in front taken later placed =
+      let all : IsLedger (run.ledger ++ made_by (front ++ taken ∷ later)) = subst (λ (turns : List TakenTurn). IsLedger (run.ledger ++ made_by turns)) placed (leaves-ledger run legal is) in
+      let joined : run.ledger ++ made_by (front ++ taken ∷ later) ≡ (run.ledger ++ (made_by front ++ taken.changes)) ++ made_by later =
+      ap (λ (changes : List Change). run.ledger ++ changes) (flat_map-append (λ (turn : TakenTurn). turn.changes) front (taken ∷ later) ∙ sym (append_assoc (made_by front) taken.changes (made_by later)))
+      ∙ sym (append_assoc run.ledger (made_by front ++ taken.changes) (made_by later)) in
+      subst IsLedger (sym (ledger-in front taken)) (ledger-front [] (run.ledger ++ (made_by front ++ taken.changes)) (made_by later) (subst IsLedger joined all))
+
+  -- what an earlier turn recorded is recorded in a later one
+  opens-later : (before : List TakenTurn) (earlier : TakenTurn) (between : List TakenTurn) (taken : TakenTurn) (item : OpenRecord) → Contains (opens (ledger_in before earlier)) item
+      → Contains (opens (ledger_in (before ++ earlier ∷ between) taken)) item
+  opens-later before earlier between taken item m =
+      let first : List Change = run.ledger ++ (made_by before ++ earlier.changes) in
+      let more : List Change = made_by between ++ taken.changes in
+      let all : ledger_in (before ++ earlier ∷ between) taken ≡ first ++ more =
+      ledger-in (before ++ earlier ∷ between) taken
+      ∙ ap (λ (changes : List Change). run.ledger ++ (changes ++ taken.changes)) (flat_map-append (λ (turn : TakenTurn). turn.changes) before (earlier ∷ between) ∙ sym (append_assoc (made_by before) earlier.changes (made_by between)))
+      ∙ ap (λ (changes : List Change). run.ledger ++ changes) (append_assoc (made_by before ++ earlier.changes) (made_by between) taken.changes)
+      ∙ sym (append_assoc run.ledger (made_by before ++ earlier.changes) more) in
+      let there : Contains (opens first) item = subst (λ (ledger : List Change). Contains (opens ledger) item) (ledger-in before earlier) m in
+      subst (λ (items : List OpenRecord). Contains items item) (sym (ap opens all ∙ opens-append first more)) (Contains-append_left (opens first) (opens more) item there)
+
+  -- before the first turn at or past its due no close of a record is attempted
+  untried-before : (front : List TakenTurn) (taken : TakenTurn) (at : IsTurnOf run front taken) (item : OpenRecord) → IsFirstDue run front taken item → close_attempted (items_of front) item.id ≡ false
+  untried-before front taken at item first =
+      false_from_ne_true (close_attempted (items_of front) item.id)
+      (λ tried.
+      let attempt = list_any-at (λ (x : Item). is_close_attempt_of item.id x.event) (items_of front) tried in
+      let is_attempt = close-attempt item.id attempt.0.event attempt.2 in
+      let place = place_of (items_of front) attempt.0 attempt.1 in
+      let turn = in-turn front place.0 attempt.0 place.1 place.2 in
+      let fronts = front-whole run.rules run.ending (entry run.ledger) front taken at.later (subst (λ (turns : List TakenTurn). LegalTurns run.rules (entry run.ledger) run.ending turns) at.placed legal.turns) in
+      let whole = whole-in run.rules (entry run.ledger) turn.front turn.taken turn.later (subst (λ (turns : List TakenTurn). AreWhole run.rules (entry run.ledger) turns) turn.placed fronts) in
+      let closed = closes-in_turn whole turn.items attempt.0 turn.rest item.id is_attempt.0 turn.among is_attempt.1 in
+      let recorded = live-recorded (ledger_in turn.front turn.taken) closed.0 closed.1 in
+      let later : Contains (opens (ledger_in front taken)) closed.0 =
+      subst (λ (turns : List TakenTurn). Contains (opens (ledger_in turns taken)) closed.0) (sym turn.placed) (opens-later turn.front turn.taken turn.later taken closed.0 recorded.0) in
+      let now = live-recorded (ledger_in front taken) item first.lives in
+      let same : closed.0 ≡ item = opens-one (ledger_in front taken) (is-ledger-in front taken at.later at.placed) closed.0 item later now.0 closed.4 in
+      let due : item.due ≤ turn.taken.turn.moment = subst (λ (record_due : OpenRecord). record_due.due ≤ turn.taken.turn.moment) same closed.2 in
+      elim (first.first turn.front turn.taken turn.later turn.placed) [
+        | inl dead ↦ dead (subst (λ (record_live : OpenRecord). IsLiveIn run turn.front turn.taken record_live) same closed.1)
+        | inr early ↦ omega (arith, early, due)
+      ])
+
+  pub starts-first_due : (front : List TakenTurn) (taken : TakenTurn) → IsWholeTurnOf run front taken → (item : OpenRecord) → IsFirstDue run front taken item → AttemptedIn taken.items (Close item.id) item.close
+  starts-first_due front taken whole item first =
+      let owed = starts-owed run legal front taken whole in
+      owed.closed item (subst (λ (place : Place). Contains (live (after place.ledger taken.changes)) item) (sym owed.reached) first.lives) first.due (untried-before front taken whole.turn item first)

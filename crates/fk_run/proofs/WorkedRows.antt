@@ -30,23 +30,23 @@ use Rattle.fk_trace.proofs.Lists.{Contains-head, list_any-from}
 use Rattle.fk_run.proofs.Starts.{starts-close, starts-left}
 use Rattle.fk_run.proofs.RowParts.{only, polls-none, polls-one, polls-two, closes-one, none-live, not-due, not-idle}
 
-abbrev source : Ip4
+abbrev pub source : Ip4
 source = record { 0 = 167772167 }
 
-has_22 : 0 < 22
+pub has_22 : 0 < 22
 has_22 = omega arith
 
-abbrev pair : Pair
+abbrev pub pair : Pair
 pair = record { proto = Tcp; port = 22; has_port = has_22 }
 
-abbrev open_words : List (List ℕ)
+abbrev pub open_words : List (List ℕ)
 open_words = codes "/bin/o" ∷ []
 
-abbrev close_words : List (List ℕ)
+abbrev pub close_words : List (List ℕ)
 close_words = codes "/bin/c" ∷ []
 
 -- any rules that grant each datagram for thirty seconds will do, so its digest is the datagram itself here
-abbrev rules : Rules
+abbrev pub rules : Rules
 rules = record {
   misshapen = λ datagram. None;
   digest = λ datagram. datagram;
@@ -55,18 +55,22 @@ rules = record {
 }
 
 -- the record of this number, made at this moment
-abbrev record_at : ℕ → List ℕ → ℕ → ℕ → OpenRecord
+abbrev pub record_at : ℕ → List ℕ → ℕ → ℕ → OpenRecord
 record_at id datagram moment due = record { id = id; digest = record { 0 = datagram }; moment = moment; due = due; ip = source; pair = pair; close = close_words }
 
-abbrev first : OpenRecord
+abbrev pub first : OpenRecord
 first = record_at 1 (codes "first") 1700000000 1700000030
 
 -- a ledger with that record, as a run finds it
-abbrev found : List Change
+abbrev pub found : List Change
 found = OpenChange first ∷ []
 
+-- an item at a moment of the host, and one of which no row asks where it stands
+abbrev pub item_at : ℕ → Event → Item
+item_at moments event = record { event = event; moments = moments; faults = 0 }
+
 abbrev item_of : Event → Item
-item_of event = record { event = event; moments = 0; faults = 0 }
+item_of event = item_at 0 event
 
 abbrev taken : FeedTurn → List Event → List Change → TakenTurn
 taken turn events changes = record { turn = turn; items = map item_of events; changes = changes }
@@ -74,11 +78,11 @@ taken turn events changes = record { turn = turn; items = map item_of events; ch
 abbrev quiet : ℕ → List Event → List Change → TakenTurn
 quiet moment events changes = taken (record { moment = moment; input = Quiet }) events changes
 
-abbrev asks : ℕ → List ℕ → FeedTurn
+abbrev pub asks : ℕ → List ℕ → FeedTurn
 asks moment datagram = record { moment = moment; input = Datagram source datagram }
 
 -- a quiet turn of these parts
-quiet-turn : (place : Place) (moment : ℕ) (start : Item) (polled closed : List Item) → start.event ≡ Turn place.number → PollsEachOnce (start ∷ place.past) polled
+pub quiet-turn : (place : Place) (moment : ℕ) (start : Item) (polled closed : List Item) → start.event ≡ Turn place.number → PollsEachOnce (start ∷ place.past) polled
     → AttemptsEachDue (changed (behind moment place (start ∷ polled ++ [])) (settlements (start ∷ place.past) polled ++ [])) moment closed
     → WholeTurn rules place (record { turn = record { moment = moment; input = Quiet }; items = start ∷ (polled ++ []) ++ closed; changes = settlements (start ∷ place.past) polled ++ [] })
 quiet-turn place moment start polled closed starts polls closes =
@@ -98,13 +102,13 @@ quiet-turn place moment start polled closed starts polls closes =
     }
 
 -- a first turn, in which the record of a datagram is made and its open is attempted
-asked-turn : (attempt : Item) → IsAttempt (Open 1) open_words attempt.event
-    → WholeTurn rules (entry []) (record { turn = asks 1700000000 (codes "first"); items = item_of (Turn 1) ∷ attempt ∷ []; changes = OpenChange first ∷ [] })
-asked-turn attempt is =
+pub asked-turn : (at tried : ℕ) (attempt : Event) → IsAttempt (Open 1) open_words attempt
+    → WholeTurn rules (entry []) (record { turn = asks 1700000000 (codes "first"); items = item_at at (Turn 1) ∷ item_at tried attempt ∷ []; changes = OpenChange first ∷ [] })
+asked-turn at tried attempt is =
     record {
-      start = item_of (Turn 1);
+      start = item_at at (Turn 1);
       polled = [];
-      opened = attempt ∷ [];
+      opened = item_at tried attempt ∷ [];
       closed = [];
       settled = [];
       recorded = OpenChange first ∷ [];
@@ -117,19 +121,19 @@ asked-turn attempt is =
     }
 
 -- the place behind these turns of a run over this ledger
-abbrev reached : List Change → List TakenTurn → Place
+abbrev pub reached : List Change → List TakenTurn → Place
 reached ledger turns = after_turns (entry ledger) turns
 
 abbrev idle_at : Place → ℕ → Bool
 idle_at place moment = is_idle place.past place.ends moment 1
 
-abbrev closes : ℕ → Event
+abbrev pub closes : ℕ → Event
 closes number = Began number (Close 1) close_words
 
-abbrev open_child : Child
+abbrev pub open_child : Child
 open_child = record { number = 1; purpose = Open 1 }
 
-abbrev close_child : ℕ → Child
+abbrev pub close_child : ℕ → Child
 close_child number = record { number = number; purpose = Close 1 }
 
 -- A first close that ends badly is repeated ten seconds after that end, and not before.
@@ -184,7 +188,7 @@ waits_no_more : idle_at (behind 1700000032 (reached [] (wait_1 ∷ wait_2 ∷ wa
 waits_no_more = refl
 
 opens_first : WholeTurn rules (entry []) wait_1
-opens_first = asked-turn (item_of (Began 1 (Open 1) open_words)) (refl, refl)
+opens_first = asked-turn 0 0 (Began 1 (Open 1) open_words) (refl, refl)
 
 close_waits_for_its_open : LegalTurns rules (entry []) AtEnd (wait_1 ∷ wait_2 ∷ wait_3 ∷ wait_4 ∷ wait_5 ∷ [])
 close_waits_for_its_open =
@@ -206,7 +210,7 @@ failed_3 = quiet 1700000031 (Turn 3 ∷ Ended 1 true ∷ []) (Done 1 ∷ [])
 
 failed_open_is_closed : LegalTurns rules (entry []) AtEnd (failed_1 ∷ failed_2 ∷ failed_3 ∷ [])
 failed_open_is_closed =
-    let opens : WholeTurn rules (entry []) failed_1 = asked-turn (item_of (StartFailed (Open 1) open_words)) (refl, refl) in
+    let opens : WholeTurn rules (entry []) failed_1 = asked-turn 0 0 (StartFailed (Open 1) open_words) (refl, refl) in
     let second = quiet-turn (reached [] (failed_1 ∷ [])) 1700000030 (item_of (Turn 2)) [] (item_of (closes 1) ∷ []) refl (polls-none _ refl) (closes-one _ 1700000030 first _ refl (omega arith) refl (refl, refl)) in
     let third = quiet-turn (reached [] (failed_1 ∷ failed_2 ∷ [])) 1700000031 (item_of (Turn 3)) (item_of (Ended 1 true) ∷ []) [] refl (polls-one _ (close_child 1) _ refl refl) (none-live _ 1700000031 refl) in
     inl (opens, inl (second, inl (third, tt)))

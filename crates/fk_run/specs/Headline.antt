@@ -1,7 +1,7 @@
 -- The headline over one run: an open is attempted only for a datagram of the same turn that the rules grant and for which there is
 -- room, and at most once for each digest; a close only for a live record that is due and idle; a record is settled only where a
 -- clean close of it has ended well in the same turn; and each turn that is not cut starts what is owed at it.
-use Rattle.std.specs.Prelude.{◌≡◌, ◌≢◌, ◌⊎◌, ℕ, ◌+◌, ◌≤◌, false, IsTrue, List, [], ◌∷◌, ◌++◌, length, map, Option, Some, None}
+use Rattle.std.specs.Prelude.{◌≡◌, ◌≢◌, ◌⊎◌, ℕ, ◌+◌, ◌<◌, ◌≤◌, false, IsTrue, List, [], ◌∷◌, ◌++◌, length, map, Option, Some, None}
 use Rattle.std.specs.List.{count_by, filter_map, flat_map, range_with_len, AllPairs, Contains}
 use Rattle.fk_base.specs.declared.purpose.Purpose.{Purpose}
 use Rattle.fk_base.specs.declared.purpose.Purpose.TheVariants.{Open, Close}
@@ -119,3 +119,15 @@ pub record StartsWhatIsOwed (run : Run) (front : List TakenTurn) (taken : TakenT
       → AttemptedIn taken.items (Close item.id) item.close
   pub none_left : (item : OpenRecord) → IsDueIdle (after_turn place taken) taken.turn.moment item
       → AttemptedIn taken.items (Close item.id) item.close
+
+-- the record is live in this turn of the run, after its changes
+abbrev pub IsLiveIn : Run → List TakenTurn → TakenTurn → OpenRecord → Type 0
+IsLiveIn run front taken item = Contains (live (after (after_turns (entry run.ledger) front).ledger taken.changes)) item
+
+-- Behind these turns of the run, this is the first turn at or past the due of the record: it is live in it, and its due is over; and in
+-- each earlier turn of the run it was not live or its due was yet to come.
+pub record IsFirstDue (run : Run) (front : List TakenTurn) (taken : TakenTurn) (item : OpenRecord) : Type 0 where
+  pub lives : IsLiveIn run front taken item
+  pub due : item.due ≤ taken.turn.moment
+  pub first : (before : List TakenTurn) (earlier : TakenTurn) (between : List TakenTurn) → front ≡ before ++ earlier ∷ between
+      → (IsLiveIn run before earlier item → ⊥) ⊎ (earlier.turn.moment < item.due)

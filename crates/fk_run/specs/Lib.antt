@@ -6,3 +6,4 @@ pub mod Legal
 pub mod Ending
 pub mod Headline
 pub mod Left
+pub mod History

@@ -1,7 +1,8 @@
 -- What a turn's answer says of its datagram.
-use Rattle.std.proofs.Common.{◌≡◌, ℕ, Bool, true, false, cond, nat_eq, List, Option, Some, None, refl, ap, ◌∙◌}
+use Rattle.std.proofs.Common.{◌≡◌, ℕ, Bool, true, false, cond, nat_eq, List, Option, Some, None, refl, sym, ap, ◌∙◌, subst}
 use Rattle.std.specs.List.{Contains}
 use Rattle.std.specs.Cmp.Lexicographic.{pointwise}
+use Rattle.std.proofs.lemmas.Bool.{false_from_ne_true}
 use Rattle.std.proofs.lemmas.Slice.Eq.{bytes_eq-Decides}
 use Rattle.fk_base.specs.declared.address.Ip4.{Ip4}
 use Rattle.fk_trace.specs.declared.change.OpenRecord.{OpenRecord}
@@ -13,7 +14,7 @@ use Rattle.fk_trace.specs.Decision.{Input, FeedTurn, Permit, Verdict, Rules, Ans
 use Rattle.fk_trace.specs.Decision.Input.{Quiet, Datagram}
 use Rattle.fk_trace.specs.Decision.Verdict.{Granted, Refused}
 use Rattle.fk_trace.specs.Decision.Answer.{Refuses, Opens}
-use Rattle.fk_trace.proofs.Lists.{list_any-none}
+use Rattle.fk_trace.proofs.Lists.{list_any-at, list_any-none}
 
 -- what isn't seen is not among the digests
 pub fresh-unseen : (digest : List ℕ) (ledger : List Change) → is_seen digest ledger ≡ false → Contains (seen ledger) digest → ⊥
@@ -21,6 +22,29 @@ fresh-unseen digest ledger unseen m =
     let differs = list_any-none (λ (other : List ℕ). pointwise nat_eq other digest) (seen ledger) unseen digest m in
     let same : pointwise nat_eq digest digest ≡ true = (bytes_eq-Decides digest digest).1 refl in
     cc
+
+-- and what is not among them isn't seen
+pub unseen-fresh : (digest : List ℕ) (ledger : List Change) → (Contains (seen ledger) digest → ⊥) → is_seen digest ledger ≡ false
+unseen-fresh digest ledger fresh =
+    false_from_ne_true (is_seen digest ledger) (λ known.
+    let at = list_any-at (λ (other : List ℕ). pointwise nat_eq other digest) (seen ledger) known in
+    fresh (subst (λ (other : List ℕ). Contains (seen ledger) other) ((bytes_eq-Decides at.0 digest).0 at.2) at.1))
+
+-- what is granted is opened
+pub opens-granted : (rules : Rules) (ledger : List Change) (turn : FeedTurn) (item : OpenRecord) (words : List (List ℕ)) → (granted : IsGranted rules ledger turn item words)
+    → answer rules ledger turn ≡ Opens item granted.permit
+opens-granted rules ledger turn item words granted =
+    let moment : ℕ = turn.moment in
+    let permit : Permit = granted.permit in
+    let made : OpenRecord = record_of rules ledger moment granted.datagram permit in
+    let other : Answer = answer_by rules ledger moment granted.datagram (rules.admit moment granted.source granted.datagram) in
+    let room : rules.has_room ledger made ≡ true = ap (rules.has_room ledger) (sym granted.recorded) ∙ granted.room in
+    ap (answer_to rules ledger moment) granted.brought
+    ∙ ap (answer_formed rules ledger moment granted.source granted.datagram) granted.formed
+    ∙ ap (λ (known : Bool). cond known (Refuses Replay) other) (unseen-fresh (rules.digest granted.datagram) ledger granted.fresh)
+    ∙ ap (answer_by rules ledger moment granted.datagram) granted.granted
+    ∙ ap (λ (fits : Bool). cond fits (Opens made permit) (Refuses Full)) room
+    ∙ ap (λ (record_made : OpenRecord). Opens record_made permit) (sym granted.recorded)
 
 module _ (item : OpenRecord) (permit : Permit) where
   opens_with_room : (room : Bool) (made : OpenRecord) (given : Permit) → cond room (Opens made given) (Refuses Full) ≡ Opens item permit → (item ≡ made) × (given ≡ permit) × (room ≡ true)

@@ -27,12 +27,19 @@ dones ledger = filter_map closed_by ledger
 abbrev pub live : List Change → List OpenRecord
 live ledger = filter (λ item. not (list_any (λ id. id == item.id) (dones ledger))) (opens ledger)
 
--- the digests of all records
-abbrev pub seen : List Change → List (List ℕ)
-seen ledger = map (λ item. item.digest.0) (opens ledger)
+-- what tells records apart: the bytes of the digest
+abbrev pub Key : Type 0
+Key = List ℕ
 
-abbrev pub is_seen : List ℕ → List Change → Bool
-is_seen digest ledger = list_any (λ other. pointwise nat_eq other digest) (seen ledger)
+abbrev pub key_of : OpenRecord → Key
+key_of item = item.digest.0
+
+-- the keys of all records
+abbrev pub seen : List Change → List Key
+seen ledger = map key_of (opens ledger)
+
+abbrev pub is_seen : Key → List Change → Bool
+is_seen key ledger = list_any (λ other. pointwise nat_eq other key) (seen ledger)
 
 -- the number of the next record
 abbrev pub next_id : List Change → ℕ
@@ -44,8 +51,8 @@ after ledger changes = ledger ++ changes
 
 -- What two ledgers have to agree in so that nothing above them can tell them apart.
 pub record State : Type 0 where
-  -- the digests of all records
-  pub seen : List (List ℕ)
+  -- the keys of all records
+  pub seen : List Key
   -- the records that are not closed for good, by rising number
   pub live : List OpenRecord
   -- the number of the next record
@@ -54,9 +61,9 @@ pub record State : Type 0 where
 abbrev pub state_of : List Change → State
 state_of ledger = record { seen = seen ledger; live = live ledger; next = next_id ledger }
 
--- the change may stand behind the ledger: a new record has the next number and a new digest, and a Done names a live record
+-- the change may stand behind the ledger: a new record has the next number and a new key, and a Done names a live record
 abbrev pub MayFollow : List Change → Change → Type 0
-MayFollow ledger (Open item) = (item.id ≡ next_id ledger) × (Contains (seen ledger) item.digest.0 → ⊥)
+MayFollow ledger (Open item) = (item.id ≡ next_id ledger) × (Contains (seen ledger) (key_of item) → ⊥)
 MayFollow ledger (Done id) = Contains (map (λ item. item.id) (live ledger)) id
 
 -- each change may stand behind those before it

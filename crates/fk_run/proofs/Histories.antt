@@ -1,0 +1,233 @@
+-- What holds of every history: each run keeps the headline, no key is attempted twice, what is on the areas stays owed, and what each
+-- run leaves is a ledger.
+use Rattle.std.proofs.Common.{◌≡◌, ◌≢◌, ◌⊎◌, ℕ, zero, suc, ◌+◌, ◌≤◌, List, [], ◌∷◌, ◌++◌, length, map, refl, sym, ap, ◌∙◌, subst, arith, inl, inr, append_assoc}
+use Rattle.std.specs.List.{AllZip, AllPairs, AllByRecursion, Contains, flat_map, range_with_len}
+use Rattle.std.proofs.lemmas.List.{map-append}
+use Rattle.std.proofs.lemmas.List.Elements.{Contains-append_left, Contains-append_right, Contains-append_cases}
+use Rattle.fk_trace.specs.declared.change.OpenRecord.{OpenRecord}
+use Rattle.fk_trace.specs.declared.change.Change.{Change}
+use Rattle.fk_trace.specs.Trace.{Item}
+use Rattle.fk_trace.specs.Ledger.{Key, key_of, State, opens, dones, live, seen, next_id, after, state_of, IsLedger}
+use Rattle.fk_trace.specs.Settled.{EndedCleanly}
+use Rattle.fk_trace.proofs.Lists.{Contains-head, Contains-tail, Contains-cases, Contains-map}
+use Rattle.fk_trace.proofs.Splits.{Contains-recursion, recursion-behind, AllPairs-front}
+use Rattle.fk_trace.proofs.Ledgers.{opens-append, dones-append}
+use Rattle.fk_run.specs.Run.{trace_of, changes_of}
+use Rattle.fk_run.specs.Headline.{OpensOnce, opens_attempted}
+use Rattle.fk_run.specs.Left.{items_behind, crashed}
+use Rattle.fk_run.specs.History.{Visit, IsVisit, IsHistory, FollowOn, trace_left, changes_left, ledger_left, OpensByGrantOnly, StartsAllThatIsOwed, AttemptsBelongTo, OpensOnceEver, IsOn, EndedIn, StaysOwed}
+use Rattle.fk_run.proofs.Cutting.{split-at}
+use Rattle.fk_run.proofs.Ledgers.{settled-below, seen-apart, live-unless_settled, live-recorded}
+use Rattle.fk_run.proofs.Leaves.{leaves-ledger}
+use Rattle.fk_run.proofs.Owed.{starts-owed}
+use Rattle.fk_run.proofs.Runs.{opens-run, once-run}
+use Rattle.fk_run.proofs.Pairs.{pairs-behind, pair-across, pairs-joined}
+use Rattle.fk_run.proofs.Stays.{Stay, IsStay, StaysFollow, all_attempted, stays-fresh, stays-distinct}
+
+-- where a list is mapped to two parts, it has two parts itself
+split-map : {X Y : Type 0} (f : X → Y) (xs : List X) (front back : List Y) → map f xs ≡ front ++ back → (items : List X) × (others : List X) × (xs ≡ items ++ others) × (map f items ≡ front)
+split-map f xs [] back e = ([], xs, refl, refl)
+split-map f [] (y ∷ front) back e = absurd cc
+split-map f (x ∷ xs) (y ∷ front) back e =
+    let rest = split-map f xs front back cc in
+    let first : f x ≡ y = cc in
+    let items = rest.2 in
+    let more = rest.3 in
+    (x ∷ rest.0, rest.1, cc, cc)
+
+in-range : (a n x : ℕ) → Contains (range_with_len a n) x → a ≤ x
+in-range a zero x m = absurd (omega (arith, m.1))
+in-range a (suc n) x m =
+    elim (Contains-cases a (range_with_len (a + 1) n) x m) [
+      | inl same ↦ omega (arith, same)
+      | inr more ↦ let up = in-range (a + 1) n x more in omega arith
+    ]
+
+-- the keys of a joined list of changes
+seen-append : (a b : List Change) → seen (a ++ b) ≡ seen a ++ seen b
+seen-append a b = ap (map key_of) (opens-append a b) ∙ map-append key_of (opens a) (opens b)
+
+-- each record belongs to its own number
+belong-each : (changes : List Change) (items : List OpenRecord) → ((item : OpenRecord) → Contains items item → Contains (opens changes) item)
+    → AllZip (λ id item. (item.id ≡ id) × Contains (opens changes) item) (map (λ item. item.id) items) items
+belong-each changes [] among = tt
+belong-each changes (item ∷ items) among = ((refl, among item (Contains-head item items)), belong-each changes items (λ other m. among other (Contains-tail item items other m)))
+
+-- the records that were attempted are the first of those that were left
+record Attempted (visit : Visit) : Type 0 where
+  items : List OpenRecord
+  others : List OpenRecord
+  parts : opens (changes_left visit) ≡ items ++ others
+  ids : map (λ item. item.id) items ≡ opens_attempted (trace_left visit)
+
+module _ (visit : Visit) (is : IsVisit visit) where
+  -- the run as the crash cuts it is legal, so it leaves a ledger and opens each record once
+  pub leaves-left : IsLedger (ledger_left visit)
+  leaves-left = subst (λ (changes : List Change). IsLedger (after visit.run.ledger changes)) is.left.changes (leaves-ledger (crashed visit.run is.left.turns) is.left.legal is.ledger)
+
+  once-left : OpensOnce (crashed visit.run is.left.turns)
+  once-left = once-run (crashed visit.run is.left.turns) is.left.legal
+
+  pub opens-left : OpensByGrantOnly visit
+  opens-left = λ before item later id words e h.
+      let behind : List Item = items_behind visit.moment (trace_of visit.run) in
+      let all : trace_of visit.run ≡ before ++ item ∷ (later ++ behind) =
+      split-at visit.moment (trace_of visit.run) is.rising ∙ ap (λ (items : List Item). items ++ behind) e ∙ append_assoc before (item ∷ later) behind in
+      opens-run visit.run is.legal before item (later ++ behind) id words all h
+
+  pub starts-left : StartsAllThatIsOwed visit
+  starts-left = λ front taken whole. starts-owed visit.run is.legal front taken whole
+
+  -- the numbers of what was left
+  ids-left : opens_attempted (trace_left visit) ++ once-left.unattempted ≡ map (λ item. item.id) (opens (changes_left visit))
+  ids-left =
+      ap (λ (items : List Item). opens_attempted items ++ once-left.unattempted) (sym is.left.items) ∙ once-left.attempted
+      ∙ ap (λ (changes : List Change). map (λ (item : OpenRecord). item.id) (opens changes)) is.left.changes
+
+  attempted : Attempted visit
+  attempted =
+      let split = split-map (λ (item : OpenRecord). item.id) (opens (changes_left visit)) (opens_attempted (trace_left visit)) once-left.unattempted (sym ids-left) in
+      record { items = split.0; others = split.1; parts = split.2; ids = split.3 }
+
+  belong-left : AttemptsBelongTo visit attempted.items
+  belong-left =
+      subst (λ (ids : List ℕ). AllZip (λ id item. (item.id ≡ id) × Contains (opens (changes_left visit)) item) ids attempted.items) attempted.ids
+      (belong-each (changes_left visit) attempted.items
+      (λ item m. subst (λ (items : List OpenRecord). Contains items item) (sym attempted.parts) (Contains-append_left attempted.items attempted.others item m)))
+
+  -- all keys of the ledger that was left, in three parts
+  keys-left : seen (ledger_left visit) ≡ seen visit.run.ledger ++ (map key_of attempted.items ++ map key_of attempted.others)
+  keys-left =
+      seen-append visit.run.ledger (changes_left visit)
+      ∙ ap (λ (items : List OpenRecord). seen visit.run.ledger ++ map key_of items) attempted.parts
+      ∙ ap (λ (keys : List Key). seen visit.run.ledger ++ keys) (map-append key_of attempted.items attempted.others)
+
+  abbrev stay : Stay
+  stay = record { found = state_of visit.run.ledger; left = state_of (ledger_left visit); attempted = map key_of attempted.items }
+
+  is-stay : IsStay stay
+  is-stay =
+      let found : List Key = seen visit.run.ledger in
+      let mine : List Key = map key_of attempted.items in
+      let others : List Key = map key_of attempted.others in
+      let apart : AllPairs (λ a b. a ≢ b) (found ++ (mine ++ others)) =
+      subst (λ (keys : List Key). AllPairs (λ a b. a ≢ b) keys) keys-left (seen-apart (ledger_left visit) leaves-left) in
+      let there : (key : Key) → Contains (found ++ (mine ++ others)) key → Contains (seen (ledger_left visit)) key = λ key m. subst (λ (keys : List Key). Contains keys key) (sym keys-left) m in
+      record {
+        distinct = AllPairs-front (λ a b. a ≢ b) mine others (pairs-behind (λ a b. a ≢ b) found (mine ++ others) apart);
+        fresh = λ key m barred. pair-across (λ a b. a ≢ b) found (mine ++ others) key key apart barred (Contains-append_left mine others key m) refl;
+        barred = λ key m. there key (Contains-append_right found (mine ++ others) key (Contains-append_left mine others key m));
+        kept = λ key m. there key (Contains-append_left found (mine ++ others) key m);
+      }
+
+  -- a record of the ledger that was left is live there, unless the run settled it
+  lives-left : (item : OpenRecord) → Contains (opens (ledger_left visit)) item → (Contains (dones visit.run.ledger) item.id → ⊥)
+      → Contains (live (ledger_left visit)) item ⊎ EndedCleanly [] (trace_left visit) item.id
+  lives-left item m unsettled =
+      elim (live-unless_settled (ledger_left visit) item m) [
+        | inl lives ↦ inl lives
+        | inr settled ↦ elim (Contains-append_cases (dones visit.run.ledger) (dones (changes_left visit)) item.id (subst (λ (ids : List ℕ). Contains ids item.id) (dones-append visit.run.ledger (changes_left visit)) settled)) [
+          | inl before ↦ absurd (unsettled before)
+          | inr here ↦ inr (is.left.settled item.id here)
+        ]
+      ]
+
+  opens-all : opens (ledger_left visit) ≡ opens visit.run.ledger ++ opens (changes_left visit)
+  opens-all = opens-append visit.run.ledger (changes_left visit)
+
+  pub stays-live : (item : OpenRecord) → Contains (live visit.run.ledger) item → Contains (live (ledger_left visit)) item ⊎ EndedCleanly [] (trace_left visit) item.id
+  stays-live item m =
+      let recorded = live-recorded visit.run.ledger item m in
+      lives-left item (subst (λ (items : List OpenRecord). Contains items item) (sym opens-all) (Contains-append_left (opens visit.run.ledger) (opens (changes_left visit)) item recorded.0)) recorded.1
+
+  -- the records that the run made are numbered from the next of what it found
+  new-left : (item : OpenRecord) → Contains (opens (changes_left visit)) item → next_id visit.run.ledger ≤ item.id
+  new-left item m =
+      let made : List Change = changes_of (crashed visit.run is.left.turns) in
+      let there : Contains (map (λ item. item.id) (opens made)) item.id =
+      subst (λ (changes : List Change). Contains (map (λ item. item.id) (opens changes)) item.id) (sym is.left.changes) (Contains-map (λ (x : OpenRecord). x.id) (opens (changes_left visit)) item m) in
+      in-range (next_id visit.run.ledger) (length (opens made)) item.id (subst (λ (ids : List ℕ). Contains ids item.id) once-left.numbered there)
+
+  pub owed-left : (item : OpenRecord) → IsOn visit item → Contains (live (ledger_left visit)) item ⊎ EndedCleanly [] (trace_left visit) item.id
+  owed-left item (inl lives) = stays-live item lives
+  owed-left item (inr made) =
+      lives-left item (subst (λ (items : List OpenRecord). Contains items item) (sym opens-all) (Contains-append_right (opens visit.run.ledger) (opens (changes_left visit)) item made))
+      (λ settled. let low = settled-below visit.run.ledger is.ledger item.id settled in let new = new-left item made in omega arith)
+
+-- the records and the stays of a history
+abbrev attempts_of : (history : List Visit) → AllByRecursion IsVisit history → List (List OpenRecord)
+attempts_of [] are = []
+attempts_of (visit ∷ later) are = (attempted visit are.0).items ∷ attempts_of later are.1
+
+abbrev stays_of : (history : List Visit) → AllByRecursion IsVisit history → List Stay
+stays_of [] are = []
+stays_of (visit ∷ later) are = stay visit are.0 ∷ stays_of later are.1
+
+belong-all : (history : List Visit) (are : AllByRecursion IsVisit history) → AllZip AttemptsBelongTo history (attempts_of history are)
+belong-all [] are = tt
+belong-all (visit ∷ later) are = (belong-left visit are.0, belong-all later are.1)
+
+keys-all : (history : List Visit) (are : AllByRecursion IsVisit history) → map key_of (flat_map (λ items. items) (attempts_of history are)) ≡ all_attempted (stays_of history are)
+keys-all [] are = refl
+keys-all (visit ∷ later) are =
+    let mine : List OpenRecord = (attempted visit are.0).items in
+    map-append key_of mine (flat_map (λ items. items) (attempts_of later are.1)) ∙ ap (λ (keys : List Key). map key_of mine ++ keys) (keys-all later are.1)
+
+are-stays : (history : List Visit) (are : AllByRecursion IsVisit history) → AllByRecursion IsStay (stays_of history are)
+are-stays [] are = tt
+are-stays (visit ∷ later) are = (is-stay visit are.0, are-stays later are.1)
+
+stays-follow : (found : List Change) (history : List Visit) (are : AllByRecursion IsVisit history) → FollowOn found history → StaysFollow (state_of found) (stays_of history are)
+stays-follow found [] are follow = tt
+stays-follow found (visit ∷ later) are follow = (follow.0, stays-follow (ledger_left visit) later are.1 follow.1)
+
+-- over all runs no two open attempts belong to records of one key
+pub once-history : (found : List Change) (history : List Visit) → IsHistory found history → OpensOnceEver found history
+once-history found history is =
+    let stays : List Stay = stays_of history is.visits in
+    let all : AllByRecursion IsStay stays = are-stays history is.visits in
+    let follow : StaysFollow (state_of found) stays = stays-follow found history is.visits is.follow in
+    let apart : AllPairs (λ a b. a ≢ b) (seen found ++ all_attempted stays) =
+    pairs-joined (λ a b. a ≢ b) (seen found) (all_attempted stays) (seen-apart found is.begins) (stays-distinct (state_of found) stays all follow)
+    (λ a b m n same. stays-fresh (state_of found) stays all follow b n (subst (λ (key : Key). Contains (seen found) key) same m)) in
+    record {
+      attempted = attempts_of history is.visits;
+      belong = belong-all history is.visits;
+      apart = subst (λ (keys : List Key). AllPairs (λ a b. a ≢ b) (seen found ++ keys)) (sym (keys-all history is.visits)) apart;
+    }
+
+-- what was live stays so in each later run, unless a clean close of it ended well
+owed-later : (found : List Change) (between : List Visit) (next : Visit) (later : List Visit) → AllByRecursion IsVisit (between ++ next ∷ later) → FollowOn found (between ++ next ∷ later)
+    → (item : OpenRecord) → Contains (live found) item → Contains (live next.run.ledger) item ⊎ EndedIn between item
+owed-later found [] next later are follow item m = inl (subst (λ (state : State). Contains state.live item) (sym follow.0) m)
+owed-later found (visit ∷ between) next later are follow item m =
+    let here : Contains (live visit.run.ledger) item = subst (λ (state : State). Contains state.live item) (sym follow.0) m in
+    elim (stays-live visit are.0 item here) [
+      | inl lives ↦ elim (owed-later (ledger_left visit) between next later are.1 follow.1 item lives) [
+        | inl still ↦ inl still
+        | inr ended ↦ inr (record { visit = ended.visit; among = Contains-tail visit between ended.visit ended.among; ended = ended.ended })
+      ]
+      | inr ended ↦ inr (record { visit = visit; among = Contains-head visit between; ended = ended })
+    ]
+
+follow-behind : (found : List Change) (front : List Visit) (visit : Visit) (later : List Visit) → FollowOn found (front ++ visit ∷ later) → FollowOn (ledger_left visit) later
+follow-behind found [] visit later follow = follow.1
+follow-behind found (first ∷ front) visit later follow = follow-behind (ledger_left first) front visit later follow.1
+
+pub owed-history : (found : List Change) (history : List Visit) → IsHistory found history → StaysOwed history
+owed-history found history is front visit between next later e item on =
+    let are : AllByRecursion IsVisit (visit ∷ (between ++ next ∷ later)) =
+    recursion-behind IsVisit front (visit ∷ (between ++ next ∷ later)) (subst (λ (visits : List Visit). AllByRecursion IsVisit visits) e is.visits) in
+    let follow : FollowOn (ledger_left visit) (between ++ next ∷ later) =
+    follow-behind found front visit (between ++ next ∷ later) (subst (λ (visits : List Visit). FollowOn found visits) e is.follow) in
+    elim (owed-left visit are.0 item on) [
+      | inl lives ↦ elim (owed-later (ledger_left visit) between next later are.1 follow item lives) [
+        | inl still ↦ inl still
+        | inr ended ↦ inr (record { visit = ended.visit; among = Contains-tail visit between ended.visit ended.among; ended = ended.ended })
+      ]
+      | inr ended ↦ inr (record { visit = visit; among = Contains-head visit between; ended = ended })
+    ]
+
+-- each run of a history is a visit
+pub visit-in : (found : List Change) (history : List Visit) → IsHistory found history → (visit : Visit) → Contains history visit → IsVisit visit
+visit-in found history is visit m = Contains-recursion IsVisit history visit is.visits m
