@@ -1,16 +1,27 @@
 # What a user calls; `make help` lists it. The proving and building is done by `rt`, the command of the Rattle kit.
 
 PREFIX ?= /usr/local
-export PREFIX
+export PREFIX DESTDIR
 
 PROGRAMS = fwknopd fwknop
+
+# the manual pages, each in the folder of its section
+MANUAL = $(wildcard docs/man/*.[158])
+
+# what is installed, as it will stand under PREFIX
+TREE = $(CURDIR)/bin/tree
+export TREE
+
+# how the tarballs of `make dist` are called; CHANGES.md says what each version brought
+VERSION := $(shell sed -n 's/^## \([0-9.]*\).*/\1/p' CHANGES.md | head -n 1)
+NAME = viltsoem-$(VERSION)
 
 SOURCES := crates.txt HANDLES $(shell find crates -name out -prune -o -type f \( -name '*.rt' -o -name '*.antt' \) -print)
 
 # the unproved builds of the programs
 UNPROVED = $(PROGRAMS:%=bin/unproved/%)
 
-.PHONY: all demo test check bench install uninstall help is_prefix
+.PHONY: all demo test check bench install uninstall dist help is_prefix tree
 
 all: $(PROGRAMS:%=bin/%) ## proves and builds the programs, and leaves them in bin/
 
@@ -51,22 +62,32 @@ bench: bin/fwknopd bin/fk_speed ## measures the built programs; bench/README.md 
 	bench/admission
 	bench/serve
 
-install: is_prefix all ## copies the programs to PREFIX/bin, where PREFIX is a folder (/usr/local if none is given)
-	@set -e; to="$$PREFIX/bin"; \
-	trap 'for it in $(PROGRAMS); do rm -f "$$to/.$$it.new"; done; rmdir "$$to" 2>/dev/null || :' EXIT; \
-	mkdir -p "$$to"; \
-	for it in $(PROGRAMS); do cp "bin/$$it" "$$to/.$$it.new"; chmod 755 "$$to/.$$it.new"; done; \
-	for it in $(PROGRAMS); do mv -fT "$$to/.$$it.new" "$$to/$$it"; echo "installed $$to/$$it"; done
+install: is_prefix tree ## copies programs, manual pages and completion to PREFIX, where that is a folder (/usr/local if none is given)
+	@contrib/install.sh "$$PREFIX"
 
-uninstall: is_prefix ## removes the programs from PREFIX/bin
-	@for it in $(PROGRAMS); do rm -f "$$PREFIX/bin/$$it" || exit 1; echo "removed $$PREFIX/bin/$$it"; done
+uninstall: ## removes from PREFIX what was installed there
+	@contrib/install.sh --uninstall "$$PREFIX"
 
 # A wrong PREFIX is refused before anything is built or copied.
 is_prefix:
-	@case "$$PREFIX" in /*) ;; *) echo "make: PREFIX must be an absolute path, and is '$$PREFIX'" >&2; exit 1 ;; esac
-	@[ -d "$$PREFIX" ] || { echo "make: PREFIX is no folder: $$PREFIX" >&2; exit 1; }
-	@to="$$PREFIX/bin"; [ -e "$$to" ] || to="$$PREFIX"; \
-	{ [ -d "$$to" ] && [ -w "$$to" ]; } || { echo "make: $$to is no folder that you may write" >&2; exit 1; }
+	@contrib/install.sh --check "$$PREFIX"
+
+tree: all
+	@rm -rf bin/tree
+	@mkdir -p bin/tree/bin bin/tree/share/fwknopd bin/tree/share/bash-completion/completions
+	@cp $(PROGRAMS:%=bin/%) contrib/open-doors bin/tree/bin
+	@for it in $(MANUAL); do to=bin/tree/share/man/man$${it##*.}; mkdir -p "$$to" && cp "$$it" "$$to" || exit 1; done
+	@for it in $(PROGRAMS); do cp contrib/completion.bash bin/tree/share/bash-completion/completions/$$it || exit 1; done
+	@cp examples/door-nft examples/door-iptables examples/access.conf examples/fwknopd.conf examples/fwknoprc bin/tree/share/fwknopd
+	@cp contrib/fwknopd.service bin/tree/share/fwknopd
+
+dist: tree ## makes two tarballs in bin/: the sources of the last commit, and the programs with an install.sh that needs no kit
+	@rm -rf bin/dist && mkdir -p bin/dist/$(NAME)-x86_64-linux
+	@git archive --format=tar.gz --prefix=$(NAME)/ -o bin/$(NAME).tar.gz HEAD
+	@cp -R bin/tree/bin bin/tree/share contrib/install.sh README.md CHANGES.md bin/dist/$(NAME)-x86_64-linux
+	@tar -C bin/dist -czf bin/$(NAME)-x86_64-linux.tar.gz --owner=0 --group=0 --sort=name $(NAME)-x86_64-linux
+	@rm -rf bin/dist
+	@echo "made bin/$(NAME).tar.gz and bin/$(NAME)-x86_64-linux.tar.gz"
 
 help: ## lists these targets
 	@awk -F ':.*## ' '/^[a-z]+:.*## / { printf "make %-10s %s\n", $$1 == "all" ? "" : $$1, $$2 }' Makefile
