@@ -21,7 +21,7 @@ use Rattle.fk_access.specs.declared.access_err.AccessErr.{AccessErr}
 use Rattle.fk_access.specs.declared.access_err.AccessErr.TheVariants.{Fault, NoMemory}
 use Rattle.fk_access.specs.declared.access_name.AccessName.TheVariants.{Source, CmdCycleOpen, CmdCycleClose}
 use Rattle.fk_access.specs.declared.stanza.Stanza.{Stanza}
-use Rattle.fk_access.specs.AccessFault.{HasRightFront, IsAccessErr, early_fault, given_by_lines, lines_fault, stanza_fault, stanzas_fault, too_many}
+use Rattle.fk_access.specs.AccessFault.{HasRightBeginning, IsAccessErr, early_fault, given_by_lines, lines_fault, stanza_fault, stanzas_fault, too_many}
 use Rattle.fk_access.specs.AccessTable.{access_rule, access_rules, given_in, source_name}
 use Rattle.fk_access.specs.AccessValues.{are_sources, is_closing}
 use Rattle.fk_access.specs.AccessWhat.{access_what}
@@ -133,7 +133,7 @@ access_goes_on lines stanza rest left access next read before few rest_is is fau
 
 pub access_has_front : (text : List ℕ) (stanza : List NumberedLine) (rest : List (List NumberedLine)) (access : List Stanza) →
     early_fault (before_head source_name (lines_of text)) ≡ None → IsAccessReading (lines_of text) (stanza ∷ rest) access → length access < 256 →
-    stanza_fault stanza ≡ None → HasRightFront text
+    stanza_fault stanza ≡ None → HasRightBeginning text
 access_has_front text stanza rest access early before few faultless =
     let room : 256 - length access ≡ suc (255 - length access) = omega arith in
     record {

@@ -61,8 +61,8 @@ stanzas_fault (suc room) (stanza ∷ stanzas) = option_or (stanza_fault stanza) 
 abbrev pub access_fault : List ℕ → Option (ℕ × AccessWhat)
 access_fault text = option_or (early_fault (before_head source_name (lines_of text))) (stanzas_fault 256 (access_stanzas text))
 
--- neither the lines before the stanzas nor the stanzas up to some one have a fault
-pub record HasRightFront (text : List ℕ) : Type 0 where
+-- Neither the lines before the stanzas nor the stanzas up to some one, so at least the first, have a fault.
+pub record HasRightBeginning (text : List ℕ) : Type 0 where
   pub front : List (List NumberedLine)
   pub stanza : List NumberedLine
   pub behind : List (List NumberedLine)
@@ -70,8 +70,8 @@ pub record HasRightFront (text : List ℕ) : Type 0 where
   pub early : early_fault (before_head source_name (lines_of text)) ≡ None
   pub faultless : stanzas_fault 256 (front ++ stanza ∷ []) ≡ None
 
--- The answer where there is no access list: the first fault of the file, or want of memory, which is asked for only for a
--- stanza up to which there is no fault.
+-- The answer where there is no access list: the first fault of the file, or want of memory, which comes only where the file begins
+-- right: its first stanza has no fault.
 abbrev pub IsAccessErr : List ℕ → AccessErr → Type 0
 IsAccessErr text (Fault line what) = access_fault text ≡ Some (line, what)
-IsAccessErr text NoMemory = HasRightFront text
+IsAccessErr text NoMemory = HasRightBeginning text

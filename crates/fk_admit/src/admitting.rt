@@ -16,7 +16,7 @@ use std::alloc::Global;
 use std::sync::ledger::Ledger;
 
 /// What is granted for a datagram that comes at this moment from `src`, by the first stanza that grants, or why nothing is.
-/// Its stamp may lie up to `age` seconds from the moment. Memory is asked for only behind a right HMAC.
+/// Its stamp may lie up to `age` seconds from the moment. Memory is wanting only behind a right HMAC.
 pub fn admit<L: Ledger>(
     alloc: Global,
     access: &Access,

@@ -14,7 +14,7 @@ use fk_fields::{Ask, Fields, Rand};
 use fk_text::ShortBytes;
 use std::alloc::Global;
 
-/// The fields that a text spells. All faults are tested before memory is asked for.
+/// The fields that a text spells. Want of memory hides no fault.
 pub fn decode(alloc: Global, text: &[u8]) -> Result<Fields, DecodeFault>
     ensures spelled { IfOk result (λ fields. Spells fields text.now) }
     ensures every { (fields : SpelledFields) → Spells fields text.now → MatchResult result (λ f. f ≡ fields) (λ e. e ≡ DecodeFault.NoMemory) }

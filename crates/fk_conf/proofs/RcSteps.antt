@@ -16,7 +16,7 @@ use Rattle.fk_conf.specs.declared.conf_err.ConfWhat.{ConfWhat}
 use Rattle.fk_conf.specs.declared.conf_err.ConfErr.{ConfErr}
 use Rattle.fk_conf.specs.declared.conf_err.ConfErr.TheVariants.{Fault, NoMemory}
 use Rattle.fk_conf.specs.declared.rc_stanza.RcStanza.{RcStanza}
-use Rattle.fk_conf.specs.RcFault.{HasRightFront, IsRcErr, early_fault, lines_fault, name_fault, rc_fault, rc_stanzas, stanza_fault, stanzas_fault}
+use Rattle.fk_conf.specs.RcFault.{HasRightBeginning, IsRcErr, early_fault, lines_fault, name_fault, rc_fault, rc_stanzas, stanza_fault, stanzas_fault}
 use Rattle.fk_conf.specs.RcPrivate.{IsBodyErr, names_of}
 use Rattle.fk_conf.specs.RcTable.{head_name, rc_rules}
 use Rattle.fk_conf.specs.ReadsRc.{IsRcStanzaOf, SaysRc}
@@ -87,7 +87,7 @@ rc_goes_on text head lines rest left file next read before named faultless rest_
 
 pub rc_has_front : (text : List ℕ) (head : Line) (lines : List NumberedLine) (rest : List (List NumberedLine)) (file : List RcStanza) →
     early_fault (before_head head_name (lines_of text)) ≡ None → IsRcReading text ((head_of head ∷ lines) ∷ rest) file →
-    name_fault (names_of file) head.value.now ≡ None → first_fault rc_rules [] lines ≡ None → HasRightFront text
+    name_fault (names_of file) head.value.now ≡ None → first_fault rc_rules [] lines ≡ None → HasRightBeginning text
 rc_has_front text head lines rest file early before named faultless =
     record {
       front = before.done;

@@ -70,8 +70,8 @@ stanzas_fault names ((head ∷ lines) ∷ stanzas) =
 abbrev pub rc_fault : List ℕ → Option (ℕ × ConfWhat)
 rc_fault text = option_or (early_fault (before_head head_name (lines_of text))) (stanzas_fault [] (rc_stanzas text))
 
--- neither the lines before the stanzas nor the stanzas up to some one have a fault
-pub record HasRightFront (text : List ℕ) : Type 0 where
+-- Neither the lines before the stanzas nor the stanzas up to some one, so at least the first, have a fault.
+pub record HasRightBeginning (text : List ℕ) : Type 0 where
   pub front : List (List NumberedLine)
   pub stanza : List NumberedLine
   pub behind : List (List NumberedLine)
@@ -79,8 +79,8 @@ pub record HasRightFront (text : List ℕ) : Type 0 where
   pub early : early_fault (before_head head_name (lines_of text)) ≡ None
   pub faultless : stanzas_fault [] (front ++ stanza ∷ []) ≡ None
 
--- The answer where there is no file: its first fault, or want of memory, which is asked for only for a stanza up to which there
--- is no fault.
+-- The answer where there is no file: its first fault, or want of memory, which comes only where the file begins right: its first
+-- stanza has no fault.
 abbrev pub IsRcErr : List ℕ → ConfErr → Type 0
 IsRcErr text (Fault line what) = rc_fault text ≡ Some (line, what)
-IsRcErr text NoMemory = HasRightFront text
+IsRcErr text NoMemory = HasRightBeginning text

@@ -16,7 +16,8 @@ use fk_mac::verify;
 use std::alloc::Global;
 use std::sync::ledger::Ledger;
 
-/// The fields that a datagram packs under the keys. No memory is asked for before its shape and its HMAC were found right.
+/// The fields that a datagram packs under the keys. Memory is wanting only where its shape and its HMAC are right, and behind the
+/// cipher only for a packet that is right.
 pub fn unpack<L: Ledger>(
     alloc: Global,
     datagram: &[u8],

@@ -52,7 +52,7 @@ pub fn is_template(text: &[u8]) -> bool
     }
 }
 
-/// The template of a text. All faults are tested before memory is asked for.
+/// The template of a text. Want of memory hides no fault.
 pub fn split(alloc: Global, text: &[u8]) -> Result<Template, CommandFault>
     requires { IsTrue (list_all is_line_byte text.now) }
     ensures split { IfOk result (λ template. IsTemplateOf text.now template) }

@@ -20,7 +20,7 @@ pub fn put_text(alloc: Global, bytes: &[u8]) -> Result<Bytes, NoMemory>
     Ok(text.into_bytes().into())
 }
 
-/// The bytes whose text is `text`. All faults are tested before memory is asked for.
+/// The bytes whose text is `text`. Want of memory hides no fault.
 pub fn take_text(alloc: Global, text: &[u8]) -> Result<Bytes, TextFault>
     ensures taken { IfOk result (λ bytes. IsBytes bytes × (text.now ≡ text_of bytes)) }
     ensures right { (bytes : List ℕ) → IsBytes bytes → text.now ≡ text_of bytes
