@@ -7,11 +7,11 @@ use Rattle.fk_trace.specs.Decision.Input.{Quiet, Datagram}
 use Rattle.fk_memory.specs.declared.children.StartScript.TheVariants.{Fails, Ends}
 use Rattle.fk_host.specs.Host.{brought_by_start, brought_by_poll}
 use Rattle.fk_memory.specs.Children.{Children, above_children, start_answer, poll_answer, children_after}
-use Rattle.fk_memory.specs.Queue.{Queue, given_by, after_next}
+use Rattle.fk_memory.specs.Feed.{FeedState, given_by, after_next}
 
 -- the first start is to fail, the second child to end badly after two turns
 abbrev scripted : Children
-scripted = record { script = Fails ∷ Ends 2 false ∷ []; turns = 0; running = []; begun = 0; polls = 0; failing = 3 ∷ []; faults = 0 }
+scripted = record { scripts = Fails ∷ Ends 2 false ∷ []; turns = 0; running = []; begun = 0; polls = 0; failing = 3 ∷ []; faults = 0 }
 
 abbrev after : List Event → Children → Children
 after [] children = children
@@ -40,8 +40,8 @@ is_forgotten : above_children (begun (Runs 1 ∷ Turn 3 ∷ Ended 1 false ∷ []
 is_forgotten = refl
 
 -- of two turns the second call fails: the turn comes at the third, and then the end
-abbrev queued : Queue
-queued = record {
+abbrev two_turns : FeedState
+two_turns = record {
   turns = record { moment = 5; input = Quiet } ∷ record { moment = 7; input = Datagram (record { 0 = 167772167 }) (107 ∷ []) } ∷ [];
   given = 0;
   fails_in = 2;
@@ -50,12 +50,12 @@ queued = record {
   faults = 0;
 }
 
-both_are_given : given_by (after_next (after_next (after_next queued)))
+both_are_given : given_by (after_next (after_next (after_next two_turns)))
     ≡ Some (record { turns = record { moment = 5; input = Quiet } ∷ record { moment = 7; input = Datagram (record { 0 = 167772167 }) (107 ∷ []) } ∷ []; port = Some 62201 })
 both_are_given = refl
 
-one_fault_is_counted : (after_next (after_next queued)).faults ≡ 1
+one_fault_is_counted : (after_next (after_next two_turns)).faults ≡ 1
 one_fault_is_counted = refl
 
-then_comes_the_end : (after_next (after_next (after_next (after_next queued)))).has_ended ≡ true
+then_comes_the_end : (after_next (after_next (after_next (after_next two_turns)))).has_ended ≡ true
 then_comes_the_end = refl

@@ -1,10 +1,10 @@
 mod Sources
-mod Mediums
+mod Images
 mod Moments
-mod MemoryCalls
-mod MediumRow
-mod Fates
-mod MemoryHosts
-mod Queues
+mod DiskCalls
+mod AreaRow
+mod ChildEvents
+mod HostCalls
+mod Feeds
 mod Unscripted
 mod HostRow

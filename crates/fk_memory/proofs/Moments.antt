@@ -7,34 +7,34 @@ use Rattle.fk_host.specs.declared.disk.Area.TheVariants.{Head, One, Two}
 use Rattle.fk_memory.specs.declared.host.Call.{Call}
 use Rattle.fk_memory.specs.declared.host.Call.TheVariants.{Other, Write, Cut, Sync}
 use Rattle.fk_host.specs.Disk.{Areas, Told, area_of, Written, Torn, Cut as IsCut, Same, InArea, Synced, KeepsPast, Passes}
-use Rattle.fk_memory.specs.Medium.{Medium, MayHold, at_rest, is_same_area, after_write, after_cut, after_sync, after_call, after_calls, medium_after, areas_after, MayLeave}
+use Rattle.fk_memory.specs.Area.{AreaState, MayHold, at_rest, is_same_area, after_write, after_cut, after_sync, after_call, after_calls, area_after, areas_after, MayLeave}
 use Rattle.fk_memory.specs.Sound.{sound_after, LeavesNow, now_leaves, area_reads}
-use Rattle.fk_memory.proofs.Mediums.{write_leaves, cut_leaves, sync_leaves, one_at_rest}
+use Rattle.fk_memory.proofs.Images.{write_leaves, cut_leaves, sync_leaves, one_at_rest}
 
-pub after_calls-push : (area : Area) (calls : List Call) (call : Call) (m : Medium) → after_calls area (calls ++ call ∷ []) m ≡ after_call area call (after_calls area calls m)
+pub after_calls-push : (area : Area) (calls : List Call) (call : Call) (m : AreaState) → after_calls area (calls ++ call ∷ []) m ≡ after_call area call (after_calls area calls m)
 after_calls-push area [] call m = refl
 after_calls-push area (other ∷ calls) call m = after_calls-push area calls call (after_call area other m)
 
-pub medium_after-push : (first : Areas) (calls : List Call) (call : Call) (area : Area) → medium_after first (calls ++ call ∷ []) area ≡ after_call area call (medium_after first calls area)
-medium_after-push first calls call area = after_calls-push area calls call (at_rest (area_of area first))
+pub area_after-push : (first : Areas) (calls : List Call) (call : Call) (area : Area) → area_after first (calls ++ call ∷ []) area ≡ after_call area call (area_after first calls area)
+area_after-push first calls call area = after_calls-push area calls call (at_rest (area_of area first))
 
 abbrev pub told_after : List Item → Areas → List Call → Told
 told_after trace first calls = record { areas = areas_after first calls; moments = length calls; trace = trace }
 
 abbrev LeavesThen : Areas → List Call → Call → Areas → Type 0
-LeavesThen first calls call image = (area : Area) → MayHold (after_call area call (medium_after first calls area)) (area_of area image)
+LeavesThen first calls call image = (area : Area) → MayHold (after_call area call (area_after first calls area)) (area_of area image)
 
 past_stays : (first : Areas) (calls : List Call) (call : Call) → KeepsPast (length calls) (MayLeave first calls) (MayLeave first (calls ++ call ∷ []))
 past_stays first calls call k image le =
     let same : take k (calls ++ call ∷ []) ≡ take k calls = take-append-le k calls (call ∷ []) le in (
-      λ new. subst (λ (cs : List Call). (area : Area) → MayHold (medium_after first cs area) (area_of area image)) same new,
-      λ old. subst (λ (cs : List Call). (area : Area) → MayHold (medium_after first cs area) (area_of area image)) (sym same) old,
+      λ new. subst (λ (cs : List Call). (area : Area) → MayHold (area_after first cs area) (area_of area image)) same new,
+      λ old. subst (λ (cs : List Call). (area : Area) → MayHold (area_after first cs area) (area_of area image)) (sym same) old,
     )
 
 then_leaves : (first : Areas) (calls : List Call) (call : Call) (image : Areas) → MayLeave first (calls ++ call ∷ []) (length (calls ++ call ∷ [])) image → LeavesThen first calls call image
 then_leaves first calls call image now area =
     let all : take (length (calls ++ call ∷ [])) (calls ++ call ∷ []) ≡ calls ++ call ∷ [] = take_all (length (calls ++ call ∷ [])) (calls ++ call ∷ []) (omega arith) in
-    subst (λ (m : Medium). MayHold m (area_of area image)) (ap (λ cs. medium_after first cs area) all ∙ medium_after-push first calls call area) (now area)
+    subst (λ (m : AreaState). MayHold m (area_of area image)) (ap (λ cs. area_after first cs area) all ∙ area_after-push first calls call area) (now area)
 
 passes : (trace : List Item) (first : Areas) (calls : List Call) (call : Call) (Reads Leaves : Areas → Areas → Type 0)
     → Reads (areas_after first calls) (areas_after first (calls ++ call ∷ []))
@@ -47,9 +47,9 @@ passes trace first calls call Reads Leaves reads leaves = record {
   now = λ image new. let r = leaves image (then_leaves first calls call image new) in (r.0, now_leaves first calls r.0 r.1, r.2);
 }
 
--- a read gives the same of an area whose medium is the same
-reads_are : (first : Areas) (calls : List Call) (call : Call) (area : Area) (bytes : List ℕ) → (after_call area call (medium_after first calls area)).reads ≡ bytes → (medium_after first (calls ++ call ∷ []) area).reads ≡ bytes
-reads_are first calls call area bytes is = ap (λ m. m.reads) (medium_after-push first calls call area) ∙ is
+-- a read gives the same of an area whose state is the same
+reads_are : (first : Areas) (calls : List Call) (call : Call) (area : Area) (bytes : List ℕ) → (after_call area call (area_after first calls area)).reads ≡ bytes → (area_after first (calls ++ call ∷ []) area).reads ≡ bytes
+reads_are first calls call area bytes is = ap (λ m. m.reads) (area_after-push first calls call area) ∙ is
 
 pub areas_are : (a b : Areas) → a.head ≡ b.head → a.one ≡ b.one → a.two ≡ b.two → a ≡ b
 areas_are a b head one two =
@@ -69,41 +69,41 @@ with_area Two bytes areas = record areas { two = bytes }
 
 -- A call changes one area, and its images come by a step: then each image of all three does.
 in_area : (first : Areas) (calls : List Call) (call : Call) (of : Area) (Step : List ℕ → List ℕ → Type 0)
-    → ((other : Area) → is_same_area of other ≡ false → (m : Medium) → after_call other call m ≡ m)
-    → ((bytes : List ℕ) → MayHold (after_call of call (medium_after first calls of)) bytes → (from : List ℕ) × MayHold (medium_after first calls of) from × Step from bytes)
+    → ((other : Area) → is_same_area of other ≡ false → (m : AreaState) → after_call other call m ≡ m)
+    → ((bytes : List ℕ) → MayHold (after_call of call (area_after first calls of)) bytes → (from : List ℕ) × MayHold (area_after first calls of) from × Step from bytes)
     → (image : Areas) → LeavesThen first calls call image → (from : Areas) × LeavesNow first calls from × InArea of Step from image
 in_area first calls call Head Step others step image now =
     let r = step image.head (now Head) in
-    (with_area Head r.0 image, elim [ Head ↦ r.1 | One ↦ subst (λ (m : Medium). MayHold m image.one) (others One refl _) (now One) | Two ↦ subst (λ (m : Medium). MayHold m image.two) (others Two refl _) (now Two) ], (r.2, refl, refl))
+    (with_area Head r.0 image, elim [ Head ↦ r.1 | One ↦ subst (λ (m : AreaState). MayHold m image.one) (others One refl _) (now One) | Two ↦ subst (λ (m : AreaState). MayHold m image.two) (others Two refl _) (now Two) ], (r.2, refl, refl))
 in_area first calls call One Step others step image now =
     let r = step image.one (now One) in
-    (with_area One r.0 image, elim [ Head ↦ subst (λ (m : Medium). MayHold m image.head) (others Head refl _) (now Head) | One ↦ r.1 | Two ↦ subst (λ (m : Medium). MayHold m image.two) (others Two refl _) (now Two) ], (refl, r.2, refl))
+    (with_area One r.0 image, elim [ Head ↦ subst (λ (m : AreaState). MayHold m image.head) (others Head refl _) (now Head) | One ↦ r.1 | Two ↦ subst (λ (m : AreaState). MayHold m image.two) (others Two refl _) (now Two) ], (refl, r.2, refl))
 in_area first calls call Two Step others step image now =
     let r = step image.two (now Two) in
-    (with_area Two r.0 image, elim [ Head ↦ subst (λ (m : Medium). MayHold m image.head) (others Head refl _) (now Head) | One ↦ subst (λ (m : Medium). MayHold m image.one) (others One refl _) (now One) | Two ↦ r.1 ], (refl, refl, r.2))
+    (with_area Two r.0 image, elim [ Head ↦ subst (λ (m : AreaState). MayHold m image.head) (others Head refl _) (now Head) | One ↦ subst (λ (m : AreaState). MayHold m image.one) (others One refl _) (now One) | Two ↦ r.1 ], (refl, refl, r.2))
 
 -- what a read gives goes over by a step in that area
 reads_in_area : (first : Areas) (calls : List Call) (call : Call) (of : Area) (Step : List ℕ → List ℕ → Type 0)
-    → ((other : Area) → is_same_area of other ≡ false → (m : Medium) → after_call other call m ≡ m)
-    → Step (medium_after first calls of).reads (after_call of call (medium_after first calls of)).reads
+    → ((other : Area) → is_same_area of other ≡ false → (m : AreaState) → after_call other call m ≡ m)
+    → Step (area_after first calls of).reads (after_call of call (area_after first calls of)).reads
     → InArea of Step (areas_after first calls) (areas_after first (calls ++ call ∷ []))
 reads_in_area first calls call Head Step others step = (
-  subst (Step (medium_after first calls Head).reads) (sym (reads_are first calls call Head _ refl)) step,
+  subst (Step (area_after first calls Head).reads) (sym (reads_are first calls call Head _ refl)) step,
   reads_are first calls call One _ (ap (λ m. m.reads) (others One refl _)),
   reads_are first calls call Two _ (ap (λ m. m.reads) (others Two refl _)),
 )
 reads_in_area first calls call One Step others step = (
   reads_are first calls call Head _ (ap (λ m. m.reads) (others Head refl _)),
-  subst (Step (medium_after first calls One).reads) (sym (reads_are first calls call One _ refl)) step,
+  subst (Step (area_after first calls One).reads) (sym (reads_are first calls call One _ refl)) step,
   reads_are first calls call Two _ (ap (λ m. m.reads) (others Two refl _)),
 )
 reads_in_area first calls call Two Step others step = (
   reads_are first calls call Head _ (ap (λ m. m.reads) (others Head refl _)),
   reads_are first calls call One _ (ap (λ m. m.reads) (others One refl _)),
-  subst (Step (medium_after first calls Two).reads) (sym (reads_are first calls call Two _ refl)) step,
+  subst (Step (area_after first calls Two).reads) (sym (reads_are first calls call Two _ refl)) step,
 )
 
-if_other : (b : Bool) (changed m : Medium) → b ≡ false → (if b then changed else m) ≡ m
+if_other : (b : Bool) (changed m : AreaState) → b ≡ false → (if b then changed else m) ≡ m
 if_other true changed m is = cc
 if_other false changed m is = refl
 
@@ -112,54 +112,54 @@ same_area Head = refl
 same_area One = refl
 same_area Two = refl
 
-if_same : (b : Bool) (changed m : Medium) → b ≡ true → (if b then changed else m) ≡ changed
+if_same : (b : Bool) (changed m : AreaState) → b ≡ true → (if b then changed else m) ≡ changed
 if_same true changed m is = refl
 if_same false changed m is = cc
 
 place_is : (at : ℕ) (bytes : List ℕ) → at ≤ length bytes → min at (length bytes) ≡ at
 place_is at bytes le = omega arith
 
-pub write_passes : (trace : List Item) (first : Areas) (calls : List Call) (of : Area) (at : ℕ) (bytes : List ℕ) → at ≤ length (medium_after first calls of).reads
+pub write_passes : (trace : List Item) (first : Areas) (calls : List Call) (of : Area) (at : ℕ) (bytes : List ℕ) → at ≤ length (area_after first calls of).reads
     → Passes (InArea of (Written at bytes)) (InArea of (Torn at (length bytes))) (MayLeave first calls) (MayLeave first (calls ++ Write of at bytes false ∷ [])) (told_after trace first calls) (told_after trace first (calls ++ Write of at bytes false ∷ []))
 write_passes trace first calls of at bytes le =
     let call : Call = Write of at bytes false in
-    let m : Medium = medium_after first calls of in
+    let m : AreaState = area_after first calls of in
     let place : min at (length m.reads) ≡ at = place_is at m.reads le in
-    let others : (other : Area) → is_same_area of other ≡ false → (n : Medium) → after_call other call n ≡ n = λ other apart n. if_other (is_same_area of other) (after_write at bytes false n) n apart in
+    let others : (other : Area) → is_same_area of other ≡ false → (n : AreaState) → after_call other call n ≡ n = λ other apart n. if_other (is_same_area of other) (after_write at bytes false n) n apart in
     let here : after_call of call m ≡ after_write at bytes false m = if_same (is_same_area of of) (after_write at bytes false m) m (same_area of) in
     passes trace first calls call (InArea of (Written at bytes)) (InArea of (Torn at (length bytes)))
     (reads_in_area first calls call of (Written at bytes) others (ap (λ n. n.reads) here ∙ ap (λ n. take n m.reads ++ bytes ++ drop (n + length bytes) m.reads) place))
     (in_area first calls call of (Torn at (length bytes)) others (λ image held.
-    let r = write_leaves at bytes false m image (sound_after first calls of) (subst (λ (n : Medium). MayHold n image) here held) in
+    let r = write_leaves at bytes false m image (sound_after first calls of) (subst (λ (n : AreaState). MayHold n image) here held) in
     (r.0, r.1, subst (λ (n : ℕ). Torn n (length bytes) r.0 image) place r.2)))
 
 torn_same : (at count : ℕ) (bytes : List ℕ) → Torn at count bytes bytes
 torn_same at count bytes = record { no_shorter = omega arith; no_longer = omega arith; kept = λ i inside apart. refl }
 
-pub failed_write_passes : (trace : List Item) (first : Areas) (calls : List Call) (of : Area) (at : ℕ) (bytes : List ℕ) → at ≤ length (medium_after first calls of).reads
+pub failed_write_passes : (trace : List Item) (first : Areas) (calls : List Call) (of : Area) (at : ℕ) (bytes : List ℕ) → at ≤ length (area_after first calls of).reads
     → Passes (InArea of (Torn at (length bytes))) (InArea of (Torn at (length bytes))) (MayLeave first calls) (MayLeave first (calls ++ Write of at bytes true ∷ [])) (told_after trace first calls) (told_after trace first (calls ++ Write of at bytes true ∷ []))
 failed_write_passes trace first calls of at bytes le =
     let call : Call = Write of at bytes true in
-    let m : Medium = medium_after first calls of in
+    let m : AreaState = area_after first calls of in
     let place : min at (length m.reads) ≡ at = place_is at m.reads le in
-    let others : (other : Area) → is_same_area of other ≡ false → (n : Medium) → after_call other call n ≡ n = λ other apart n. if_other (is_same_area of other) (after_write at bytes true n) n apart in
+    let others : (other : Area) → is_same_area of other ≡ false → (n : AreaState) → after_call other call n ≡ n = λ other apart n. if_other (is_same_area of other) (after_write at bytes true n) n apart in
     let here : after_call of call m ≡ after_write at bytes true m = if_same (is_same_area of of) (after_write at bytes true m) m (same_area of) in
     passes trace first calls call (InArea of (Torn at (length bytes))) (InArea of (Torn at (length bytes)))
-    (reads_in_area first calls call of (Torn at (length bytes)) others (subst (λ (n : Medium). Torn at (length bytes) m.reads n.reads) (sym here) (torn_same at (length bytes) m.reads)))
+    (reads_in_area first calls call of (Torn at (length bytes)) others (subst (λ (n : AreaState). Torn at (length bytes) m.reads n.reads) (sym here) (torn_same at (length bytes) m.reads)))
     (in_area first calls call of (Torn at (length bytes)) others (λ image held.
-    let r = write_leaves at bytes true m image (sound_after first calls of) (subst (λ (n : Medium). MayHold n image) here held) in
+    let r = write_leaves at bytes true m image (sound_after first calls of) (subst (λ (n : AreaState). MayHold n image) here held) in
     (r.0, r.1, subst (λ (n : ℕ). Torn n (length bytes) r.0 image) place r.2)))
 
 pub cut_passes : (trace : List Item) (first : Areas) (calls : List Call) (of : Area) (len : ℕ)
     → Passes (InArea of (λ old new. new ≡ take len old)) (InArea of (IsCut len)) (MayLeave first calls) (MayLeave first (calls ++ Cut of len false ∷ [])) (told_after trace first calls) (told_after trace first (calls ++ Cut of len false ∷ []))
 cut_passes trace first calls of len =
     let call : Call = Cut of len false in
-    let m : Medium = medium_after first calls of in
-    let others : (other : Area) → is_same_area of other ≡ false → (n : Medium) → after_call other call n ≡ n = λ other apart n. if_other (is_same_area of other) (after_cut len false n) n apart in
+    let m : AreaState = area_after first calls of in
+    let others : (other : Area) → is_same_area of other ≡ false → (n : AreaState) → after_call other call n ≡ n = λ other apart n. if_other (is_same_area of other) (after_cut len false n) n apart in
     let here : after_call of call m ≡ after_cut len false m = if_same (is_same_area of of) (after_cut len false m) m (same_area of) in
     passes trace first calls call (InArea of (λ old new. new ≡ take len old)) (InArea of (IsCut len))
     (reads_in_area first calls call of (λ old new. new ≡ take len old) others (ap (λ n. n.reads) here))
-    (in_area first calls call of (IsCut len) others (λ image held. cut_leaves len false m image (sound_after first calls of) (subst (λ (n : Medium). MayHold n image) here held)))
+    (in_area first calls call of (IsCut len) others (λ image held. cut_leaves len false m image (sound_after first calls of) (subst (λ (n : AreaState). MayHold n image) here held)))
 
 cut_same : (len : ℕ) (bytes : List ℕ) → IsCut len bytes bytes
 cut_same len bytes = record { front = sym (take_all (length bytes) bytes (omega arith)); no_shorter = omega arith }
@@ -168,40 +168,40 @@ pub failed_cut_passes : (trace : List Item) (first : Areas) (calls : List Call) 
     → Passes (InArea of (IsCut len)) (InArea of (IsCut len)) (MayLeave first calls) (MayLeave first (calls ++ Cut of len true ∷ [])) (told_after trace first calls) (told_after trace first (calls ++ Cut of len true ∷ []))
 failed_cut_passes trace first calls of len =
     let call : Call = Cut of len true in
-    let m : Medium = medium_after first calls of in
-    let others : (other : Area) → is_same_area of other ≡ false → (n : Medium) → after_call other call n ≡ n = λ other apart n. if_other (is_same_area of other) (after_cut len true n) n apart in
+    let m : AreaState = area_after first calls of in
+    let others : (other : Area) → is_same_area of other ≡ false → (n : AreaState) → after_call other call n ≡ n = λ other apart n. if_other (is_same_area of other) (after_cut len true n) n apart in
     let here : after_call of call m ≡ after_cut len true m = if_same (is_same_area of of) (after_cut len true m) m (same_area of) in
     passes trace first calls call (InArea of (IsCut len)) (InArea of (IsCut len))
-    (reads_in_area first calls call of (IsCut len) others (subst (λ (n : Medium). IsCut len m.reads n.reads) (sym here) (cut_same len m.reads)))
-    (in_area first calls call of (IsCut len) others (λ image held. cut_leaves len true m image (sound_after first calls of) (subst (λ (n : Medium). MayHold n image) here held)))
+    (reads_in_area first calls call of (IsCut len) others (subst (λ (n : AreaState). IsCut len m.reads n.reads) (sym here) (cut_same len m.reads)))
+    (in_area first calls call of (IsCut len) others (λ image held. cut_leaves len true m image (sound_after first calls of) (subst (λ (n : AreaState). MayHold n image) here held)))
 
 -- an image behind a sync was there before it
 sync_before : (first : Areas) (calls : List Call) (of : Area) (failed : Bool) (image : Areas) → LeavesThen first calls (Sync of failed) image → LeavesNow first calls image
 sync_before first calls of failed image now area =
-    elim (is_same_area of area) as (λ b. MayHold (if b then after_sync failed (medium_after first calls area) else medium_after first calls area) (area_of area image) → MayHold (medium_after first calls area) (area_of area image)) [
-      | true ↦ λ held. sync_leaves failed (medium_after first calls area) (area_of area image) (sound_after first calls area) held
+    elim (is_same_area of area) as (λ b. MayHold (if b then after_sync failed (area_after first calls area) else area_after first calls area) (area_of area image) → MayHold (area_after first calls area) (area_of area image)) [
+      | true ↦ λ held. sync_leaves failed (area_after first calls area) (area_of area image) (sound_after first calls area) held
       | false ↦ λ held. held
     ] (now area)
 
-sync_reads : (failed : Bool) (m : Medium) → (after_sync failed m).reads ≡ m.reads
+sync_reads : (failed : Bool) (m : AreaState) → (after_sync failed m).reads ≡ m.reads
 sync_reads true m = refl
 sync_reads false m = refl
 
-reads_if : (b : Bool) (changed m : Medium) → changed.reads ≡ m.reads → (if b then changed else m).reads ≡ m.reads
+reads_if : (b : Bool) (changed m : AreaState) → changed.reads ≡ m.reads → (if b then changed else m).reads ≡ m.reads
 reads_if true changed m is = is
 reads_if false changed m is = refl
 
 pub sync_same : (first : Areas) (calls : List Call) (of : Area) (failed : Bool) → Same (areas_after first calls) (areas_after first (calls ++ Sync of failed ∷ []))
 sync_same first calls of failed =
-    let one : (area : Area) → (medium_after first (calls ++ Sync of failed ∷ []) area).reads ≡ (medium_after first calls area).reads =
-    λ area. reads_are first calls (Sync of failed) area _ (reads_if (is_same_area of area) (after_sync failed (medium_after first calls area)) (medium_after first calls area) (sync_reads failed (medium_after first calls area))) in
+    let one : (area : Area) → (area_after first (calls ++ Sync of failed ∷ []) area).reads ≡ (area_after first calls area).reads =
+    λ area. reads_are first calls (Sync of failed) area _ (reads_if (is_same_area of area) (after_sync failed (area_after first calls area)) (area_after first calls area) (sync_reads failed (area_after first calls area))) in
     areas_are _ _ (one Head) (one One) (one Two)
 
 pub sync_passes : (trace : List Item) (first : Areas) (calls : List Call) (of : Area)
     → Passes Same (Synced of (areas_after first (calls ++ Sync of false ∷ []))) (MayLeave first calls) (MayLeave first (calls ++ Sync of false ∷ [])) (told_after trace first calls) (told_after trace first (calls ++ Sync of false ∷ []))
 sync_passes trace first calls of =
     let call : Call = Sync of false in
-    let m : Medium = medium_after first calls of in
+    let m : AreaState = area_after first calls of in
     let here : after_call of call m ≡ after_sync false m = if_same (is_same_area of of) (after_sync false m) m (same_area of) in
     passes trace first calls call Same (Synced of (areas_after first (calls ++ call ∷ []))) (sync_same first calls of false)
     (λ image now. (
@@ -209,7 +209,7 @@ sync_passes trace first calls of =
       sync_before first calls of false image now,
       (
         refl,
-        one_at_rest m.reads (area_of of image) (subst (λ (n : Medium). MayHold n (area_of of image)) here (now of))
+        one_at_rest m.reads (area_of of image) (subst (λ (n : AreaState). MayHold n (area_of of image)) here (now of))
             ∙ sym (ap (area_of of) (sync_same first calls of false) ∙ area_reads first calls of),
       ),
     ))

@@ -6,18 +6,18 @@ use Rattle.fk_trace.specs.Trace.{Event}
 use Rattle.fk_trace.specs.Trace.Event.{Turn, Began, StartFailed, Ended, Runs, PollFailed}
 use Rattle.fk_memory.specs.declared.children.HeldChild.{HeldChild}
 use Rattle.fk_host.specs.Host.{is_running}
-use Rattle.fk_memory.specs.Children.{Children, child_of, above_children, next_fate, start_by, start_answer, end_by, end_of, poll_answer, children_after, EndsWell, IsUnscripted, BeganEarlier}
+use Rattle.fk_memory.specs.Children.{Children, child_of, above_children, next_script, start_by, start_answer, end_by, end_of, poll_answer, children_after, EndsWell, IsUnscripted, BeganEarlier}
 
 pub starts : (children : Children) → IsUnscripted children → start_answer false children ≡ Ok (record { 0 = children.begun + 1 })
-starts children plain = ap (λ script. start_by (next_fate script) (children.begun + 1)) plain.script
+starts children plain = ap (λ scripts. start_by (next_script scripts) (children.begun + 1)) plain.scripts
 
 le_true : (a b : ℕ) → a ≤ b → nat_le a b ≡ true
 le_true a b le = grind (arith, nat_tests)
 
 -- a child of an earlier turn has ended well
-ended : (turns : ℕ) (held : HeldChild) → EndsWell turns held → held.turn < turns → end_by held.fate (turns - held.turn) ≡ Some true
+ended : (turns : ℕ) (held : HeldChild) → EndsWell turns held → held.turn < turns → end_by held.script (turns - held.turn) ≡ Some true
 ended turns held well earlier =
-    ap (λ fate. end_by fate (turns - held.turn)) well.0
+    ap (λ script. end_by script (turns - held.turn)) well.0
     ∙ ap (λ (b : Bool). if b then Some true else None) (le_true 1 (turns - held.turn) (omega (arith, earlier)))
 
 found : (turns number : ℕ) (running : List HeldChild) → AllByRecursion (EndsWell turns) running → AllByRecursion (λ held. held.turn < turns) running
@@ -49,16 +49,16 @@ added P [] x all p = (p, tt)
 added P (y ∷ xs) x all p = (all.0, added P xs x all.1 p)
 
 pub stays : (event : Event) (children : Children) → IsUnscripted children → IsUnscripted (children_after event children)
-stays (Turn number) children plain = record { script = plain.script; failing = plain.failing; running = later children.turns children.running plain.running }
+stays (Turn number) children plain = record { scripts = plain.scripts; failing = plain.failing; running = later children.turns children.running plain.running }
 stays (Began number purpose words) children plain = record {
-  script = ap (drop 1) plain.script;
+  scripts = ap (drop 1) plain.scripts;
   failing = plain.failing;
-  running = added (EndsWell children.turns) children.running _ plain.running (ap next_fate plain.script, omega arith);
+  running = added (EndsWell children.turns) children.running _ plain.running (ap next_script plain.scripts, omega arith);
 }
-stays (StartFailed purpose words) children plain = record { script = ap (drop 1) plain.script; failing = plain.failing; running = plain.running }
-stays (Ended number good) children plain = record { script = plain.script; failing = plain.failing; running = kept (EndsWell children.turns) _ children.running plain.running }
-stays (Runs number) children plain = record { script = plain.script; failing = plain.failing; running = plain.running }
-stays (PollFailed number) children plain = record { script = plain.script; failing = plain.failing; running = plain.running }
+stays (StartFailed purpose words) children plain = record { scripts = ap (drop 1) plain.scripts; failing = plain.failing; running = plain.running }
+stays (Ended number good) children plain = record { scripts = plain.scripts; failing = plain.failing; running = kept (EndsWell children.turns) _ children.running plain.running }
+stays (Runs number) children plain = record { scripts = plain.scripts; failing = plain.failing; running = plain.running }
+stays (PollFailed number) children plain = record { scripts = plain.scripts; failing = plain.failing; running = plain.running }
 
 pub turns : (number : ℕ) (children : Children) → IsUnscripted children → BeganEarlier (children_after (Turn number) children)
 turns number children plain = below children.running plain.running

@@ -16,7 +16,7 @@ use Rattle.fk_host.specs.Disk.{Above}
 -- where the children of a host in memory stand
 pub record Children : Type 0 where
   -- how the next starts fare, in their order
-  pub script : List StartScript
+  pub scripts : List StartScript
   -- how many turns have begun
   pub turns : ℕ
   -- the children that were begun and that no poll has seen to end
@@ -29,7 +29,7 @@ pub record Children : Type 0 where
   -- how often a start or a poll has failed
   pub faults : ℕ
 
--- a child, without its fate
+-- a child, without its script
 abbrev pub child_of : HeldChild → Child
 child_of held = record { number = held.number; purpose = held.purpose }
 
@@ -37,10 +37,10 @@ child_of held = record { number = held.number; purpose = held.purpose }
 abbrev pub above_children : Children → Above
 above_children children = record { running = map child_of children.running; faults = children.faults; last_child = children.begun }
 
--- how the next start fares: past the script a child begins and ends well after one turn
-abbrev pub next_fate : List StartScript → StartScript
-next_fate [] = Ends 1 true
-next_fate (fate ∷ script) = fate
+-- how the next start fares: past the scripts a child begins and ends well after one turn
+abbrev pub next_script : List StartScript → StartScript
+next_script [] = Ends 1 true
+next_script (next ∷ scripts) = next
 
 -- the answer of a start that fares so, where a child that begins gets this number
 abbrev pub start_by : StartScript → ℕ → Result ChildId StartErr
@@ -50,9 +50,9 @@ start_by (Ends after good) number = Ok (record { 0 = number })
 
 -- The answer of the next start. Where the host has become short, it is want of memory.
 abbrev pub start_answer : Bool → Children → Result ChildId StartErr
-start_answer is_short children = if is_short then Err NoMemory else start_by (next_fate children.script) (children.begun + 1)
+start_answer is_short children = if is_short then Err NoMemory else start_by (next_script children.scripts) (children.begun + 1)
 
--- what a poll finds of a child of this fate that began so many turns ago
+-- what a poll finds of a child of this script that began so many turns ago
 abbrev pub end_by : StartScript → ℕ → Option Bool
 end_by Fails turns = None
 end_by Never turns = None
@@ -60,7 +60,7 @@ end_by (Ends after good) turns = if nat_le after turns then Some good else None
 
 abbrev pub end_of : ℕ → Option HeldChild → Option Bool
 end_of turns None = None
-end_of turns (Some held) = end_by held.fate (turns - held.turn)
+end_of turns (Some held) = end_by held.script (turns - held.turn)
 
 -- The answer of the next poll, made of the child of this number. It fails where it is told to, and where the host has become
 -- short.
@@ -74,11 +74,11 @@ poll_answer is_short number children =
 abbrev pub children_after : Event → Children → Children
 children_after (Turn number) children = record children { turns = children.turns + 1 }
 children_after (Began number purpose words) children = record children {
-  script = drop 1 children.script;
-  running = children.running ++ record { number = number; purpose = purpose; fate = next_fate children.script; turn = children.turns } ∷ [];
+  scripts = drop 1 children.scripts;
+  running = children.running ++ record { number = number; purpose = purpose; script = next_script children.scripts; turn = children.turns } ∷ [];
   begun = children.begun + 1;
 }
-children_after (StartFailed purpose words) children = record children { script = drop 1 children.script; faults = counted children.faults }
+children_after (StartFailed purpose words) children = record children { scripts = drop 1 children.scripts; faults = counted children.faults }
 children_after (Ended number good) children = record children {
   running = filter (λ held. not (held.number == number)) children.running;
   polls = children.polls + 1;
@@ -93,11 +93,11 @@ children_by (Some event) children = children_after event children
 
 -- a child ends well after one turn, and began in one of so many turns
 abbrev pub EndsWell : ℕ → HeldChild → Type 0
-EndsWell turns held = (held.fate ≡ Ends 1 true) × (held.turn ≤ turns)
+EndsWell turns held = (held.script ≡ Ends 1 true) × (held.turn ≤ turns)
 
 -- nothing is scripted: no start and no poll is to fail, and each child ends well after one turn
 pub record IsUnscripted (children : Children) : Type 0 where
-  pub script : children.script ≡ []
+  pub scripts : children.scripts ≡ []
   pub failing : children.failing ≡ []
   pub running : AllByRecursion (EndsWell children.turns) children.running
 

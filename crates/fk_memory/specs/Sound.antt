@@ -7,14 +7,15 @@ use Rattle.fk_host.specs.declared.disk.Area.TheVariants.{Head, One, Two}
 use Rattle.fk_memory.specs.declared.host.Call.{Call}
 use Rattle.fk_memory.specs.declared.host.Call.TheVariants.{Other, Write, Cut, Sync}
 use Rattle.fk_host.specs.Disk.{Areas, Told, area_of}
-use Rattle.fk_memory.specs.Medium.{Medium, MayHold, at_rest, is_same_area, overwritten, after_write, after_cut, after_sync, after_call, after_calls, medium_after, areas_after, MayLeave, Memory, told_of, leaves_of}
+use Rattle.fk_memory.specs.Area.{AreaState, MayHold, at_rest, is_same_area, overwritten, after_write, after_cut, after_sync, after_call, after_calls, area_after, areas_after, MayLeave}
+use Rattle.fk_memory.specs.Host.{HostState, told_of, leaves_of}
 
 -- what keeps an area in order
-pub record IsSound (medium : Medium) : Type 0 where
-  pub order : medium.least ≤ medium.greatest
-  pub base : medium.least ≤ length medium.synced
-  pub top : length medium.synced ≤ medium.greatest
-  pub reads : MayHold medium medium.reads
+pub record IsSound (state : AreaState) : Type 0 where
+  pub order : state.least ≤ state.greatest
+  pub base : state.least ≤ length state.synced
+  pub top : length state.synced ≤ state.greatest
+  pub reads : MayHold state state.reads
 
 pub sound_at_rest : (bytes : List ℕ) → IsSound (at_rest bytes)
 sound_at_rest bytes = record { order = omega arith; base = omega arith; top = omega arith; reads = record { no_shorter = omega arith; no_longer = omega arith; kept = λ i inside below out. refl } }
@@ -27,7 +28,7 @@ pub overwritten_outside : (at : ℕ) (piece bytes : List ℕ) (i : ℕ) → at �
 overwritten_outside at piece bytes i le inside (inl low) = grind (arith, places)
 overwritten_outside at piece bytes i le inside (inr high) = grind (arith, places)
 
-pub sound_after_write : (place : ℕ) (bytes : List ℕ) (failed : Bool) (m : Medium) → IsSound m → IsSound (after_write place bytes failed m)
+pub sound_after_write : (place : ℕ) (bytes : List ℕ) (failed : Bool) (m : AreaState) → IsSound m → IsSound (after_write place bytes failed m)
 sound_after_write place bytes true m sound = record {
   order = omega (arith, sound.order);
   base = sound.base;
@@ -55,7 +56,7 @@ sound_after_write place bytes false m sound =
       };
     }
 
-pub sound_after_cut : (len : ℕ) (failed : Bool) (m : Medium) → IsSound m → IsSound (after_cut len failed m)
+pub sound_after_cut : (len : ℕ) (failed : Bool) (m : AreaState) → IsSound m → IsSound (after_cut len failed m)
 sound_after_cut len true m sound = record {
   order = omega (arith, sound.order);
   base = omega (arith, sound.base);
@@ -81,44 +82,44 @@ sound_after_cut len false m sound =
       };
     }
 
-pub sound_after_sync : (failed : Bool) (m : Medium) → IsSound m → IsSound (after_sync failed m)
+pub sound_after_sync : (failed : Bool) (m : AreaState) → IsSound m → IsSound (after_sync failed m)
 sound_after_sync true m sound = sound
 sound_after_sync false m sound = sound_at_rest m.reads
 
-sound_if : (b : Bool) (changed m : Medium) → IsSound changed → IsSound m → IsSound (if b then changed else m)
+sound_if : (b : Bool) (changed m : AreaState) → IsSound changed → IsSound m → IsSound (if b then changed else m)
 sound_if true changed m a b = a
 sound_if false changed m a b = b
 
-sound_after_call : (area : Area) (call : Call) (m : Medium) → IsSound m → IsSound (after_call area call m)
+sound_after_call : (area : Area) (call : Call) (m : AreaState) → IsSound m → IsSound (after_call area call m)
 sound_after_call area Other m sound = sound
 sound_after_call area (Write of at bytes failed) m sound = sound_if (is_same_area of area) _ m (sound_after_write at bytes failed m sound) sound
 sound_after_call area (Cut of len failed) m sound = sound_if (is_same_area of area) _ m (sound_after_cut len failed m sound) sound
 sound_after_call area (Sync of failed) m sound = sound_if (is_same_area of area) _ m (sound_after_sync failed m sound) sound
 
-sound_after_calls : (area : Area) (calls : List Call) (m : Medium) → IsSound m → IsSound (after_calls area calls m)
+sound_after_calls : (area : Area) (calls : List Call) (m : AreaState) → IsSound m → IsSound (after_calls area calls m)
 sound_after_calls area [] m sound = sound
 sound_after_calls area (call ∷ calls) m sound = sound_after_calls area calls (after_call area call m) (sound_after_call area call m sound)
 
-pub sound_after : (first : Areas) (calls : List Call) (area : Area) → IsSound (medium_after first calls area)
+pub sound_after : (first : Areas) (calls : List Call) (area : Area) → IsSound (area_after first calls area)
 sound_after first calls area = sound_after_calls area calls (at_rest (area_of area first)) (sound_at_rest (area_of area first))
 
 -- what a crash may leave now
 abbrev pub LeavesNow : Areas → List Call → Areas → Type 0
-LeavesNow first calls image = (area : Area) → MayHold (medium_after first calls area) (area_of area image)
+LeavesNow first calls image = (area : Area) → MayHold (area_after first calls area) (area_of area image)
 
 pub now_leaves : (first : Areas) (calls : List Call) (image : Areas) → LeavesNow first calls image → MayLeave first calls (length calls) image
-now_leaves first calls image now = subst (λ (cs : List Call). (area : Area) → MayHold (medium_after first cs area) (area_of area image)) (sym (take_all (length calls) calls (omega arith))) now
+now_leaves first calls image now = subst (λ (cs : List Call). (area : Area) → MayHold (area_after first cs area) (area_of area image)) (sym (take_all (length calls) calls (omega arith))) now
 
-pub area_reads : (first : Areas) (calls : List Call) (area : Area) → area_of area (areas_after first calls) ≡ (medium_after first calls area).reads
+pub area_reads : (first : Areas) (calls : List Call) (area : Area) → area_of area (areas_after first calls) ≡ (area_after first calls area).reads
 area_reads first calls Head = refl
 area_reads first calls One = refl
 area_reads first calls Two = refl
 
 -- what a read gives is an image
 pub read_is_left : (first : Areas) (calls : List Call) → MayLeave first calls (length calls) (areas_after first calls)
-read_is_left first calls = now_leaves first calls (areas_after first calls) (λ area. subst (MayHold (medium_after first calls area)) (sym (area_reads first calls area)) (sound_after first calls area).reads)
+read_is_left first calls = now_leaves first calls (areas_after first calls) (λ area. subst (MayHold (area_after first calls area)) (sym (area_reads first calls area)) (sound_after first calls area).reads)
 
-pub told_is_left : (host : Memory) → IfSome (told_of host) (λ now. leaves_of host now.moments now.areas)
+pub told_is_left : (host : HostState) → IfSome (told_of host) (λ now. leaves_of host now.moments now.areas)
 told_is_left host =
     elim host.is_short as (λ b. IfSome (if b then None else Some (record { areas = areas_after host.first host.calls; moments = length host.calls; trace = host.trace })) (λ (now : Told). MayLeave host.first host.calls now.moments now.areas)) [
       | true ↦ tt
@@ -126,6 +127,6 @@ told_is_left host =
     ]
 
 -- with every write since the last sync, or with none of them
-pub image_held : (keep : Bool) (m : Medium) → IsSound m → MayHold m (if keep then m.reads else m.synced)
+pub image_held : (keep : Bool) (m : AreaState) → IsSound m → MayHold m (if keep then m.reads else m.synced)
 image_held true m sound = sound.reads
 image_held false m sound = record { no_shorter = sound.base; no_longer = sound.top; kept = λ i inside below out. refl }

@@ -1,6 +1,6 @@
 //! The children of a host in memory. No process is started: each of them fares as it was scripted.
 ghost use Rattle.std.specs.Prelude.{false, ◌≡◌, ◌+◌, ◌-◌, ◌<◌, drop, ◌==◌, not, find, ◌^◌, [], ◌∷◌, ◌++◌, vec_len, vec_capacity, OnOk, OnErr};
-ghost use Rattle.fk_memory.specs.Children.{next_fate, start_answer, end_by, poll_answer, children_after};
+ghost use Rattle.fk_memory.specs.Children.{next_script, start_answer, end_by, poll_answer, children_after};
 ghost use Rattle.fk_memory.specs.HostRecord.{children_of, event_of, CountsWithin};
 ghost use Rattle.fk_trace.specs.Trace.Event.{Began};
 ghost use Rattle.std.specs.List.{filter, list_any};
@@ -39,7 +39,7 @@ impl StartScript {
 pub struct HeldChild {
     pub number: u64,
     pub purpose: Purpose,
-    pub fate: StartScript,
+    pub script: StartScript,
     /// How many turns had begun when it began.
     pub turn: u64,
 }
@@ -47,7 +47,7 @@ pub struct HeldChild {
 /// The children, and how the next ones fare.
 #[derive(Drop)]
 pub(crate) struct MemChildren {
-    pub script: Vec<StartScript>,
+    pub scripts: Vec<StartScript>,
     pub turns: u64,
     pub running: Vec<HeldChild>,
     pub begun: u64,
@@ -58,10 +58,10 @@ pub(crate) struct MemChildren {
 
 impl MemChildren {
     pub fn new(alloc: Global) -> Self
-        ensures { children_of result ≡ record { script = []; turns = 0; running = []; begun = 0; polls = 0; failing = []; faults = 0 } }
+        ensures { children_of result ≡ record { scripts = []; turns = 0; running = []; begun = 0; polls = 0; failing = []; faults = 0 } }
     {
         MemChildren {
-            script: Vec::new(alloc),
+            scripts: Vec::new(alloc),
             turns: 0,
             running: Vec::new(alloc),
             begun: 0,
@@ -76,7 +76,7 @@ impl MemChildren {
         requires { self.now.begun + 1 < 2 ^ 64 }
         ensures { result ≡ start_answer false (children_of self.now) }
     {
-        match self.next_fate() {
+        match self.next_script() {
             StartScript::Fails => Err(StartErr::Failed),
             _ => Ok(ChildId(self.begun + 1)),
         }
@@ -91,7 +91,7 @@ impl MemChildren {
             return Err(Failed);
         }
         match self.find(child.0) {
-            Some(held) => Ok(held.fate.end(self.turns.saturating_sub(held.turn))),
+            Some(held) => Ok(held.script.end(self.turns.saturating_sub(held.turn))),
             None => Ok(None),
         }
     }
@@ -120,7 +120,7 @@ impl MemChildren {
             HostEvent::Turn(_) => self.turns += 1,
             HostEvent::Began { child, purpose, .. } => self.begin(*child, *purpose),
             HostEvent::StartFailed { .. } => {
-                self.next_script();
+                self.drop_script();
                 self.faults = self.faults.saturating_add(1);
             }
             HostEvent::Ended { child, .. } => {
@@ -140,12 +140,12 @@ impl MemChildren {
         requires room { vec_len self.old.running < vec_capacity self.old.running }
         ensures { children_of self.new ≡ children_after (Began number purpose []) (children_of self.old) }
     {
-        let fate = self.next_fate();
-        self.next_script();
+        let script = self.next_script();
+        self.drop_script();
         self.running.push_reserved(HeldChild {
             number,
             purpose,
-            fate,
+            script,
             turn: self.turns,
         });
         self.begun += 1;
@@ -158,11 +158,11 @@ impl MemChildren {
         self.running.retain(|held| held.number != number);
     }
 
-    fn next_fate(&self) -> StartScript
-        ensures { result ≡ next_fate self.now.script.items }
+    fn next_script(&self) -> StartScript
+        ensures { result ≡ next_script self.now.scripts.items }
     {
-        match self.script.first() {
-            Some(fate) => *fate,
+        match self.scripts.first() {
+            Some(script) => *script,
             None => StartScript::Ends {
                 after: 1,
                 good: true,
@@ -170,12 +170,12 @@ impl MemChildren {
         }
     }
 
-    fn next_script(&mut self)
-        ensures rest { self.new ≡ record self.old { script = self.new.script } }
-        ensures script { self.new.script.items ≡ drop 1 self.old.script.items }
+    fn drop_script(&mut self)
+        ensures rest { self.new ≡ record self.old { scripts = self.new.scripts } }
+        ensures scripts { self.new.scripts.items ≡ drop 1 self.old.scripts.items }
     {
-        if !self.script.is_empty() {
-            self.script.remove(0);
+        if !self.scripts.is_empty() {
+            self.scripts.remove(0);
         }
     }
 }

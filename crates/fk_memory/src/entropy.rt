@@ -18,9 +18,9 @@ pub struct MemEntropy {
 
 impl Model for MemEntropy {
     ghost use Rattle.std.specs.Prelude.{◌≤◌, drop, length};
-    ghost use Rattle.fk_memory.specs.Pool.{Pool};
+    ghost use Rattle.fk_memory.specs.Entropy.{EntropyState};
 
-    ghost Value = { Pool };
+    ghost Value = { EntropyState };
 
     ghost view = { λ e. record { left = drop e.given e.bytes.items; faults = e.faults } };
 

@@ -2,7 +2,7 @@ ghost use Rattle.std.specs.Prelude.{◌≡◌, ◌↔◌, ◌<◌, ◌≤◌, �
 ghost use Rattle.std.specs.Option.{option_copied};
 ghost use Rattle.fk_host.specs.Count.{HasCause};
 ghost use Rattle.fk_host.specs.Feed.{datagram_len, turns_of, GivesTurns, OpensAt, is_end_input, is_end};
-ghost use Rattle.fk_memory.specs.Queue.{input_of, cut_turn, given_by, end_moment, IsNext, after_turn, after_next};
+ghost use Rattle.fk_memory.specs.Feed.{input_of, cut_turn, given_by, end_moment, IsNext, after_turn, after_next};
 
 use fk_base::{Bytes, Failed, Ip4, Moment, NoMemory};
 use fk_host::{DATAGRAM_ROOM, Feed, Input, Turn};
@@ -19,7 +19,7 @@ struct HeldTurn {
 
 impl Model for HeldTurn {
     ghost use Rattle.fk_trace.specs.Decision.{FeedTurn};
-    ghost use Rattle.fk_memory.specs.Queue.{input_of};
+    ghost use Rattle.fk_memory.specs.Feed.{input_of};
 
     ghost Value = { FeedTurn };
 
@@ -79,9 +79,9 @@ pub struct MemFeed {
 
 impl Model for MemFeed {
     ghost use Rattle.std.specs.Prelude.{◌≤◌, length};
-    ghost use Rattle.fk_memory.specs.Queue.{Queue};
+    ghost use Rattle.fk_memory.specs.Feed.{FeedState};
 
-    ghost Value = { Queue };
+    ghost Value = { FeedState };
 
     ghost view = { λ f. record { turns = f.turns.items; given = f.given; fails_in = f.fails_in; port = f.port; has_ended = f.has_ended; faults = f.faults } };
 

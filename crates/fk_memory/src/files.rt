@@ -4,7 +4,7 @@ ghost use Rattle.std.specs.Option.{option_copied, option_map};
 ghost use Rattle.std.specs.Str.{bytes_eq};
 ghost use Rattle.fk_host.specs.Count.{HasCauseBy};
 ghost use Rattle.fk_host.specs.Files.{bytes_of_file, is_fault, ReadsFile};
-ghost use Rattle.fk_memory.specs.Shelf.{is_among, read_fault};
+ghost use Rattle.fk_memory.specs.Files.{is_among, read_fault};
 
 use fk_base::{Bytes, FILE_LIMIT, NoMemory};
 use fk_host::{FileErr, Files, HeldFile};
@@ -21,9 +21,9 @@ pub struct MemFiles {
 }
 
 impl Model for MemFiles {
-    ghost use Rattle.fk_memory.specs.Shelf.{Shelf};
+    ghost use Rattle.fk_memory.specs.Files.{FilesState};
 
-    ghost Value = { Shelf };
+    ghost Value = { FilesState };
 
     ghost view = { λ f. record { held = f.held.items; failing = f.failing.items; faults = f.faults } };
 }

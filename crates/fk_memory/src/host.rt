@@ -5,11 +5,12 @@ ghost use Rattle.std.specs.List.{list_any};
 ghost use Rattle.std.specs.Option.{ForSome};
 ghost use Rattle.fk_host.specs.Count.{counted, HasCause};
 ghost use Rattle.fk_host.specs.Disk.{area_of, Written, Torn, Cut, Same, InArea, Synced, Calls, LeavesHost};
-ghost use Rattle.fk_memory.specs.Medium.{Medium, medium_after, areas_after, after_call, overwritten, MayHold, told_of, leaves_of, above_of, fails_next, fails_to_write, after_disk_call, after_call_above, reads_after, texts};
+ghost use Rattle.fk_memory.specs.Area.{AreaState, area_after, areas_after, after_call, overwritten, MayHold, reads_after};
+ghost use Rattle.fk_memory.specs.Host.{told_of, leaves_of, above_of, fails_next, fails_to_write, after_disk_call, after_call_above};
+ghost use Rattle.fk_memory.specs.HostRecord.{texts, event_of};
 ghost use Rattle.fk_trace.specs.Trace.Event.{Turn};
 ghost use Rattle.fk_host.specs.Host.{brought_by_start, brought_by_poll, CallsAbove, above_after, above_by, is_running};
 ghost use Rattle.fk_memory.specs.Children.{start_answer, poll_answer};
-ghost use Rattle.fk_memory.specs.HostRecord.{event_of};
 ghost use Rattle.fk_memory.specs.declared.host.Call.TheVariants.{Other, Write as Writes, Cut as Cuts, Sync as Syncs};
 ghost use Rattle.fk_memory.specs.Sound.{told_is_left};
 
@@ -139,10 +140,11 @@ pub struct MemHost {
 
 impl Model for MemHost {
     ghost use Rattle.std.specs.Prelude.{◌≡◌, ◌≤◌, false, length};
-    ghost use Rattle.fk_memory.specs.Medium.{Memory, texts, areas_after};
-    ghost use Rattle.fk_memory.specs.HostRecord.{children_of, CountsWithin};
+    ghost use Rattle.fk_memory.specs.Area.{areas_after};
+    ghost use Rattle.fk_memory.specs.Host.{HostState};
+    ghost use Rattle.fk_memory.specs.HostRecord.{texts, children_of, CountsWithin};
 
-    ghost Value = { Memory };
+    ghost Value = { HostState };
 
     ghost view = { λ h. record { first = texts h.first; calls = h.calls.items; disk_calls = h.disk_calls; failing = h.failing.items; faults = h.faults; trace = h.trace.items; children = children_of h.children; is_short = h.is_short } };
 
@@ -159,7 +161,7 @@ impl MemHost {
           failing = [];
           faults = 0;
           trace = [];
-          children = record { script = []; turns = 0; running = []; begun = 0; polls = 0; failing = []; faults = 0 };
+          children = record { scripts = []; turns = 0; running = []; begun = 0; polls = 0; failing = []; faults = 0 };
           is_short = false;
         }) }
     {
@@ -188,10 +190,10 @@ impl MemHost {
 
     /// Adds how a start fares, behind what was added before. Past all of these each child begins, and ends well after one turn.
     pub fn script(&mut self, item: StartScript) -> Result<(), NoMemory>
-        ensures ok { OnOk result (self.new ≡ record self.old { children = record self.old.children { script = self.old.children.script ++ item ∷ [] } }) }
+        ensures ok { OnOk result (self.new ≡ record self.old { children = record self.old.children { scripts = self.old.children.scripts ++ item ∷ [] } }) }
         ensures err { OnErr result (self.new ≡ self.old) }
     {
-        self.children.script.push(item)?;
+        self.children.scripts.push(item)?;
         Ok(())
     }
 
@@ -223,17 +225,17 @@ impl MemHost {
     pub fn image(&self, moment: u64, area: Area, keep: bool) -> Result<Bytes, NoMemory>
         requires past { moment ≤ length self.now.calls }
         requires told { self.now.is_short ≡ false }
-        ensures bytes { let medium = medium_after self.now.first (take moment self.now.calls) area in
-            IfOk result (λ bytes. bytes ≡ (if keep then medium.reads else medium.synced)) }
-        ensures left { IfOk result (λ bytes. MayHold (medium_after self.now.first (take moment self.now.calls) area) bytes) }
+        ensures bytes { let state = area_after self.now.first (take moment self.now.calls) area in
+            IfOk result (λ bytes. bytes ≡ (if keep then state.reads else state.synced)) }
+        ensures left { IfOk result (λ bytes. MayHold (area_after self.now.first (take moment self.now.calls) area) bytes) }
     {
         self.replayed(moment, area, keep)
     }
 
     fn replayed(&self, moment: u64, area: Area, keep: bool) -> Result<Bytes, NoMemory>
         requires { moment ≤ length self.now.calls }
-        ensures { let medium = medium_after self.now.first (take moment self.now.calls) area in
-            IfOk result (λ bytes. bytes ≡ (if keep then medium.reads else medium.synced)) }
+        ensures { let state = area_after self.now.first (take moment self.now.calls) area in
+            IfOk result (λ bytes. bytes ≡ (if keep then state.reads else state.synced)) }
     {
         let first = self.first.text(area);
         let mut reads = Vec::from_slice(self.alloc, first)?;
@@ -527,8 +529,8 @@ fn replay(
     reads: &mut Vec<u8>,
     synced: &mut Vec<u8>,
 ) -> Result<(), NoMemory>
-    ensures { (medium : Medium) → medium.reads ≡ reads.old.items → medium.synced ≡ synced.old.items
-        → OnOk result (((after_call area call.now medium).reads ≡ reads.new.items) × ((after_call area call.now medium).synced ≡ synced.new.items)) }
+    ensures { (state : AreaState) → state.reads ≡ reads.old.items → state.synced ≡ synced.old.items
+        → OnOk result (((after_call area call.now state).reads ≡ reads.new.items) × ((after_call area call.now state).synced ≡ synced.new.items)) }
 {
     apply_to(area, call, reads)?;
     if let Call::Sync {

@@ -1,7 +1,7 @@
 ghost use Rattle.std.specs.Prelude.{◌≡◌, ◌<◌, ◌≤◌, [], length, take, is_err, Some, IfOk, OnOk, OnErr};
 ghost use Rattle.fk_host.specs.Count.{counted, HasCause};
 ghost use Rattle.fk_host.specs.Link.{Sends};
-ghost use Rattle.fk_memory.specs.Outbox.{fails_to_send};
+ghost use Rattle.fk_memory.specs.Link.{fails_to_send};
 
 use fk_base::Failed;
 use fk_host::Link;
@@ -28,9 +28,9 @@ pub struct MemLink {
 impl Model for MemLink {
     ghost use Rattle.std.specs.Prelude.{◌≤◌, take};
     ghost use Rattle.fk_memory.specs.declared.link.TheConstants.{GREATEST_DATAGRAM, GREATEST_SERVER};
-    ghost use Rattle.fk_memory.specs.Outbox.{Outbox};
+    ghost use Rattle.fk_memory.specs.Link.{LinkState};
 
-    ghost Value = { Outbox };
+    ghost Value = { LinkState };
 
     ghost view = { λ l. record {
       sent = record { count = l.count; datagram = take l.datagram_len l.datagram; server = take l.server_len l.server; port = l.port };

@@ -1,5 +1,5 @@
 ghost use Rattle.std.specs.Prelude.{◌≡◌, ◌<◌, ◌≤◌, ◌++◌, [], length, take, false, Some, IfOk, OnErr};
-ghost use Rattle.fk_memory.specs.Stock.{fitting_count, FailsToTake};
+ghost use Rattle.fk_memory.specs.Sink.{fitting_count, FailsToTake};
 
 use fk_base::Failed;
 use fk_host::Sink;
@@ -18,9 +18,9 @@ pub struct MemSink {
 
 impl Model for MemSink {
     ghost use Rattle.std.specs.Prelude.{vec_capacity};
-    ghost use Rattle.fk_memory.specs.Stock.{Stock};
+    ghost use Rattle.fk_memory.specs.Sink.{SinkState};
 
-    ghost Value = { Stock };
+    ghost Value = { SinkState };
 
     ghost view = { λ s. record { written = s.items.items; room = vec_capacity s.items; limit = s.limit; is_short = s.is_short; faults = s.faults } };
 }

@@ -1,7 +1,7 @@
 ghost use Rattle.std.specs.Prelude.{◌≡◌, ◌↔◌, ◌<◌, ◌≤◌, ◌-◌, [], length, take, drop, unwrap_or, Some, IfOk, IsErr, OnErr, IfSome, MatchResult};
 ghost use Rattle.fk_host.specs.Count.{HasCause};
 ghost use Rattle.fk_host.specs.Stream.{Takes};
-ghost use Rattle.fk_memory.specs.Supply.{given_count};
+ghost use Rattle.fk_memory.specs.Source.{given_count};
 
 use fk_base::{Failed, NoMemory};
 use fk_host::Source;
@@ -21,9 +21,9 @@ pub struct MemSource {
 
 impl Model for MemSource {
     ghost use Rattle.std.specs.Prelude.{◌<◌, ◌≤◌, drop, length};
-    ghost use Rattle.fk_memory.specs.Supply.{Supply};
+    ghost use Rattle.fk_memory.specs.Source.{SourceState};
 
-    ghost Value = { Supply };
+    ghost Value = { SourceState };
 
     ghost view = { λ s. record { left = drop s.given s.bytes.items; most = s.most; fails_in = s.fails_in; faults = s.faults } };
 

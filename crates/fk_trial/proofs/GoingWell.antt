@@ -63,7 +63,7 @@ module _ (law : Law) where
 
   -- a new host
   unscripted-none : IsUnscripted no_children
-  unscripted-none = record { script = refl; failing = refl; running = tt }
+  unscripted-none = record { scripts = refl; failing = refl; running = tt }
 
   -- the poll of a child that runs since an earlier turn finds that it has ended well
   poll-well : (event : Event) (child : Child) (children : Children) → IsUnscripted children → BeganEarlier children → IsPollOf child event → IsAnswer children event

@@ -10,7 +10,7 @@ use Rattle.fk_host.specs.declared.host.StartErr.TheVariants.{Failed as NotStarte
 use Rattle.fk_memory.specs.declared.host.Call.{Call}
 use Rattle.fk_host.specs.Host.{brought_by_start, brought_by_poll, items_of, is_running}
 use Rattle.fk_memory.specs.Children.{Children, above_children, start_answer, poll_answer, children_after, children_by}
-use Rattle.fk_memory.specs.Medium.{Memory, after_disk_call, after_call_above}
+use Rattle.fk_memory.specs.Host.{HostState, after_disk_call, after_call_above}
 use Rattle.fk_trial.specs.Replay.{no_children, children_behind, IsAnswer, AreAnswers, IsNewHost, IsReplay, IsTrialHost}
 
 -- one answer more
@@ -23,24 +23,24 @@ pub behind-push : (children : Children) (items : List Item) (item : Item) → ch
 behind-push children [] item = refl
 behind-push children (first ∷ items) item = behind-push (children_after first.event children) items item
 
-pub new_host : (host : Memory) → IsNewHost host → IsTrialHost host
+pub new_host : (host : HostState) → IsNewHost host → IsTrialHost host
 new_host host new told = record {
-  answers = subst (λ (trace : List Item). AreAnswers no_children trace) (sym (ap (λ (h : Memory). h.trace) new)) tt;
-  children = ap (λ (h : Memory). h.children) new ∙ ap (λ (trace : List Item). children_behind no_children trace) (sym (ap (λ (h : Memory). h.trace) new));
+  answers = subst (λ (trace : List Item). AreAnswers no_children trace) (sym (ap (λ (h : HostState). h.trace) new)) tt;
+  children = ap (λ (h : HostState). h.children) new ∙ ap (λ (trace : List Item). children_behind no_children trace) (sym (ap (λ (h : HostState). h.trace) new));
 }
 
 -- a host with the same trace and children
-same_replay : (old new : Memory) → new.trace ≡ old.trace → new.children ≡ old.children → IsReplay old → IsReplay new
+same_replay : (old new : HostState) → new.trace ≡ old.trace → new.children ≡ old.children → IsReplay old → IsReplay new
 same_replay old new trace children replay = record {
   answers = subst (λ (items : List Item). AreAnswers no_children items) (sym trace) replay.answers;
   children = children ∙ replay.children ∙ ap (λ (items : List Item). children_behind no_children items) (sym trace);
 }
 
 -- a call of the disk
-pub kept-disk : (call : Call) (failed : Bool) (old new : Memory) → new ≡ after_disk_call call failed new.is_short old → IsTrialHost old → IsTrialHost new
+pub kept-disk : (call : Call) (failed : Bool) (old new : HostState) → new ≡ after_disk_call call failed new.is_short old → IsTrialHost old → IsTrialHost new
 kept-disk call failed old new is keeps told =
     let here : new ≡ after_disk_call call failed false old = subst (λ (b : Bool). new ≡ after_disk_call call failed b old) told is in
-    same_replay old new (ap (λ (h : Memory). h.trace) here) (ap (λ (h : Memory). h.children) here) (keeps (sym (ap (λ (h : Memory). h.is_short) here) ∙ told))
+    same_replay old new (ap (λ (h : HostState). h.trace) here) (ap (λ (h : HostState). h.children) here) (keeps (sym (ap (λ (h : HostState). h.is_short) here) ∙ told))
 
 -- what a call brought, if anything, is an answer
 abbrev pub MayAnswer : Option Event → Children → Type 0
@@ -48,7 +48,7 @@ MayAnswer None children = Unit {0}
 MayAnswer (Some event) children = IsAnswer children event
 
 -- the same trace and children with what a call brought
-brought_replay : (event : Option Event) (moments faults : ℕ) (old new : Memory) → new.trace ≡ old.trace ++ items_of event moments faults
+brought_replay : (event : Option Event) (moments faults : ℕ) (old new : HostState) → new.trace ≡ old.trace ++ items_of event moments faults
     → new.children ≡ children_by event old.children → MayAnswer event old.children → IsReplay old → IsReplay new
 brought_replay None moments faults old new trace children answer replay = same_replay old new (trace ∙ append-nil old.trace) children replay
 brought_replay (Some event) moments faults old new trace children answer replay =
@@ -61,14 +61,14 @@ brought_replay (Some event) moments faults old new trace children answer replay 
     }
 
 -- a call above the disk
-kept-above : (event : Option Event) (old new : Memory) → new ≡ after_call_above event new.is_short old → (new.is_short ≡ false → MayAnswer event old.children)
+kept-above : (event : Option Event) (old new : HostState) → new ≡ after_call_above event new.is_short old → (new.is_short ≡ false → MayAnswer event old.children)
     → IsTrialHost old → IsTrialHost new
 kept-above event old new is answers keeps told =
     let here : new ≡ after_call_above event false old = subst (λ (b : Bool). new ≡ after_call_above event b old) told is in
-    brought_replay event _ old.faults old new (ap (λ (h : Memory). h.trace) here) (ap (λ (h : Memory). h.children) here) (answers told)
-    (keeps (sym (ap (λ (h : Memory). h.is_short) here) ∙ told))
+    brought_replay event _ old.faults old new (ap (λ (h : HostState). h.trace) here) (ap (λ (h : HostState). h.children) here) (answers told)
+    (keeps (sym (ap (λ (h : HostState). h.is_short) here) ∙ told))
 
-pub kept-turn : (number : ℕ) (old new : Memory) → new ≡ after_call_above (Some (Turn number)) new.is_short old → IsTrialHost old → IsTrialHost new
+pub kept-turn : (number : ℕ) (old new : HostState) → new ≡ after_call_above (Some (Turn number)) new.is_short old → IsTrialHost old → IsTrialHost new
 kept-turn number old new is keeps = kept-above (Some (Turn number)) old new is (λ told. tt) keeps
 
 start_answers : (purpose : Purpose) (words : List (List ℕ)) (result : Result ChildId StartErr) (children : Children) → result ≡ start_answer false children
@@ -77,7 +77,7 @@ start_answers purpose words (Ok child) children is = sym is
 start_answers purpose words (Err NotStarted) children is = sym is
 start_answers purpose words (Err NoMemory) children is = tt
 
-pub kept-start : (purpose : Purpose) (words : List (List ℕ)) (result : Result ChildId StartErr) (old new : Memory) → result ≡ start_answer new.is_short old.children
+pub kept-start : (purpose : Purpose) (words : List (List ℕ)) (result : Result ChildId StartErr) (old new : HostState) → result ≡ start_answer new.is_short old.children
     → new ≡ after_call_above (brought_by_start purpose words result) new.is_short old → IsTrialHost old → IsTrialHost new
 kept-start purpose words result old new answer is keeps =
     kept-above (brought_by_start purpose words result) old new is
@@ -89,7 +89,7 @@ poll_answers number (Ok None) children runs is = (runs, sym is)
 poll_answers number (Ok (Some good)) children runs is = (runs, sym is)
 poll_answers number (Err error) children runs is = (runs, sym is)
 
-pub kept-poll : (number : ℕ) (result : Result (Option Bool) Failed) (old new : Memory) → IsTrue (is_running number (above_children old.children))
+pub kept-poll : (number : ℕ) (result : Result (Option Bool) Failed) (old new : HostState) → IsTrue (is_running number (above_children old.children))
     → result ≡ poll_answer new.is_short number old.children → new ≡ after_call_above (brought_by_poll number result) new.is_short old → IsTrialHost old → IsTrialHost new
 kept-poll number result old new runs answer is keeps =
     kept-above (brought_by_poll number result) old new is

@@ -3,7 +3,7 @@ use Rattle.std.proofs.Common.{◌≡◌, ℕ, ◌<◌, Bool, true, false, not, �
 use Rattle.fk_trace.specs.Decision.{FeedTurn}
 use Rattle.fk_run.specs.Place.{Place, entry}
 use Rattle.fk_run.specs.Turn.{TakenTurn, after_turns}
-use Rattle.fk_memory.specs.Stock.{Stock}
+use Rattle.fk_memory.specs.Sink.{SinkState}
 use Rattle.fk_input.specs.Reading.{Reading, IsBounded, rest, TakesLine}
 use Rattle.fk_log.specs.Printing.{SinkView}
 use Rattle.fk_log.specs.Writing.{output}
@@ -36,7 +36,7 @@ abbrev pub IsServed : Session → Session → Type 0
 IsServed old mid = mid ≡ record old { daemon = mid.daemon; host = mid.host; log = mid.log }
 
 -- a turn that was served whole and whose page was to be printed
-pub printed-line : (law : Law) (policy : Policy) (turn : FeedTurn) (place : Place) (result : Option Stop) (old mid new : Session) (blank page : Stock) (before after : SinkView)
+pub printed-line : (law : Law) (policy : Policy) (turn : FeedTurn) (place : Place) (result : Option Stop) (old mid new : Session) (blank page : SinkState) (before after : SinkView)
     → IsTurnLine old.reader.line turn
     → ServesWhole policy place turn (scene old.daemon (view old.host) (output old.log (Some blank.written) blank.faults)) (scene mid.daemon (view mid.host) (output mid.log (Some page.written) page.faults))
     → blank.written ≡ [] → mid.host.is_short ≡ false → IsReplay mid.host → IsServed old mid
@@ -59,7 +59,7 @@ printed-line law policy turn place (Some stop.LongInput) old mid new blank page 
 printed-line law policy turn place (Some stop.ReadFault) old mid new blank page before after is serves blank_is told replay mid_is prints = absurd prints
 
 -- a turn that was cut, or whose host became short
-pub unprinted-line : {T : Type 0} (policy : Policy) (turn : FeedTurn) (place : Place) (result : Result T TurnErr) (old mid : Session) (blank page : Stock) (sink : SinkView)
+pub unprinted-line : {T : Type 0} (policy : Policy) (turn : FeedTurn) (place : Place) (result : Result T TurnErr) (old mid : Session) (blank page : SinkState) (sink : SinkView)
     → IsTurnLine old.reader.line turn
     → ServesOver policy place turn (scene old.daemon (view old.host) (output old.log (Some blank.written) blank.faults)) (scene mid.daemon (view mid.host) (output mid.log (Some page.written) page.faults)) result
     → IsServed old mid → StopsServing old mid sink sink

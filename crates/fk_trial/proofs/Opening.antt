@@ -3,7 +3,8 @@ use Rattle.std.proofs.Common.{◌≡◌, false, List, [], refl, ap, ◌∙◌, s
 use Rattle.fk_trace.specs.declared.change.Change.{Change}
 use Rattle.fk_run.specs.Place.{entry}
 use Rattle.fk_host.specs.Disk.{Areas, Above, IfTold}
-use Rattle.fk_memory.specs.Medium.{Memory, told_of, leaves_of, above_of, areas_after}
+use Rattle.fk_memory.specs.Area.{areas_after}
+use Rattle.fk_memory.specs.Host.{HostState, told_of, leaves_of, above_of}
 use Rattle.fk_conf.specs.declared.conf.Conf.{Conf}
 use Rattle.fk_ledger.specs.Book.{Book}
 use Rattle.fk_ledger.specs.Holds.{HoldsLedger, KeepsLedger}
@@ -14,7 +15,7 @@ use Rattle.fk_trial.specs.Sessions.{OpensDaemon}
 use Rattle.fk_trial.proofs.Serving.{told-hosts}
 
 -- what the opening of a ledger over a new host says
-pub record Opened (conf : Conf) (ledger : Book) (old new : Memory) : Type 0 where
+pub record Opened (conf : Conf) (ledger : Book) (old new : HostState) : Type 0 where
   pub held : IfTold (told_of old) (told_of new) (λ before later. HoldsLedger before.areas ledger.changes)
   pub fresh : (ledger.room ≡ conf.room) × (ledger.limit ≡ conf.live) × (ledger.is_spent ≡ false)
   pub keeps : KeepsLedger ledger.changes (told_of new) (leaves_of new)
@@ -27,12 +28,12 @@ empty_areas = record { head = []; one = []; two = [] }
 holds-none : HoldsLedger empty_areas []
 holds-none = record { entries = inl (omega arith, refl); each = tt; follow = tt }
 
-pub opened : (conf : Conf) (ledger : Book) (daemon : DaemonState) (old new : Memory) → IsNewHost old → Opened conf ledger old new
+pub opened : (conf : Conf) (ledger : Book) (daemon : DaemonState) (old new : HostState) → IsNewHost old → Opened conf ledger old new
     → ((image : Areas) (a b : List Change) → HoldsLedger image a → HoldsLedger image b → a ≡ b)
     → (daemon.book ≡ ledger) × (daemon.turns ≡ 0) → ((above : Above) → IsTied daemon.crew above (entry ledger.changes)) → daemon.crew.unsettled ≡ []
     → new.is_short ≡ false → IsTrialHost new → OpensDaemon conf daemon new
 opened conf ledger daemon old new fresh opens one is tied settled told replay =
-    let areas : areas_after old.first old.calls ≡ empty_areas = ap (λ (host : Memory). areas_after host.first host.calls) fresh in
+    let areas : areas_after old.first old.calls ≡ empty_areas = ap (λ (host : HostState). areas_after host.first host.calls) fresh in
     let held : HoldsLedger (areas_after old.first old.calls) ledger.changes =
     told-hosts old new (λ before later. HoldsLedger before.areas ledger.changes) told opens.held in
     let none : ledger.changes ≡ [] = one empty_areas ledger.changes [] (subst (λ (image : Areas). HoldsLedger image ledger.changes) areas held) holds-none in
@@ -54,6 +55,6 @@ opened conf ledger daemon old new fresh opens one is tied settled told replay =
       };
       told = told;
       replay = replay told;
-      trace = trace ∙ ap (λ (host : Memory). host.trace) fresh;
-      faults = opens.disk ∙ ap (λ (host : Memory). host.faults) fresh;
+      trace = trace ∙ ap (λ (host : HostState). host.trace) fresh;
+      faults = opens.disk ∙ ap (λ (host : HostState). host.faults) fresh;
     }

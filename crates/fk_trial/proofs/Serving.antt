@@ -7,8 +7,9 @@ use Rattle.fk_run.specs.Turn.{after_turn}
 use Rattle.fk_host.specs.Disk.{Told as TellsOf, IfTold}
 use Rattle.fk_host.specs.Count.{counted}
 use Rattle.fk_host.specs.Stream.{Gives}
-use Rattle.fk_memory.specs.Medium.{Memory, told_of, areas_after}
-use Rattle.fk_memory.specs.Stock.{Stock}
+use Rattle.fk_memory.specs.Area.{areas_after}
+use Rattle.fk_memory.specs.Host.{HostState, told_of}
+use Rattle.fk_memory.specs.Sink.{SinkState}
 use Rattle.fk_log.specs.Line.{Line}
 use Rattle.fk_log.specs.Log.{turn_lines}
 use Rattle.fk_log.specs.Log.RefusalLine.{Told}
@@ -46,7 +47,7 @@ rests-output conf at place out rests = record {
 pub rests-parks : (conf : Conf) (at : Scene) (place : Place) → AtRest conf at place → OwesItsLive at.daemon
 rests-parks conf at place rests = rests.stands.stands.tied.owes ∙ ap live_ids (sym rests.stands.changes)
 
-abbrev tells : Memory → TellsOf
+abbrev tells : HostState → TellsOf
 tells host = record { areas = areas_after host.first host.calls; moments = length host.calls; trace = host.trace }
 
 told_both : (b c : Bool) (x y : TellsOf) (F : TellsOf → TellsOf → Type 0) → c ≡ false → IfTold (cond b None (Some x)) (cond c None (Some y)) F → F x y
@@ -55,7 +56,7 @@ told_both true false x y F is told = absurd told
 told_both false false x y F is told = told
 
 -- what is said of two hosts where the later is not short
-pub told-hosts : (old new : Memory) (F : TellsOf → TellsOf → Type 0) → new.is_short ≡ false → IfTold (told_of old) (told_of new) F → F (tells old) (tells new)
+pub told-hosts : (old new : HostState) (F : TellsOf → TellsOf → Type 0) → new.is_short ≡ false → IfTold (told_of old) (told_of new) F → F (tells old) (tells new)
 told-hosts old new F is told = told_both old.is_short new.is_short (tells old) (tells new) F is told
 
 given-whole : (text : List ℕ) (old : Option (List ℕ)) (now : List ℕ) → old ≡ Some [] → Gives text old (Some now) → now ≡ text
@@ -66,7 +67,7 @@ given-whole text (Some bytes) now blank gives =
     all ∙ ap (λ (front : List ℕ). front ++ text) none
 
 -- the text of a page that was written whole
-page-text : (text : List ℕ) (log : LogState) (before : Output) (page : Stock) → before.written ≡ Some [] → before.log.is_broken ≡ false → log.is_broken ≡ false
+page-text : (text : List ℕ) (log : LogState) (before : Output) (page : SinkState) → before.written ≡ Some [] → before.log.is_broken ≡ false → log.is_broken ≡ false
     → Writes before.log.is_broken log.is_broken text before (output log (Some page.written) page.faults) → page.written ≡ text
 page-text text log before page blank sound whole writes =
     let after : Output = output log (Some page.written) page.faults in
@@ -91,7 +92,7 @@ other-text true false text other old new same writes = writes
 other-text false false text other old new same writes = subst (λ (t : List ℕ). Writes false false t old new) (same refl) writes
 other-text false true text other old new same writes = subst (λ (t : List ℕ). Writes false true t old new) (same refl) writes
 
-module _ (law : Law) (policy : Policy) (turn : FeedTurn) (place : Place) (old mid new : Session) (blank page : Stock) (before after : SinkView)
+module _ (law : Law) (policy : Policy) (turn : FeedTurn) (place : Place) (old mid new : Session) (blank page : SinkState) (before after : SinkView)
     (serves : ServesWhole policy place turn (scene old.daemon (view old.host) (output old.log (Some blank.written) blank.faults)) (scene mid.daemon (view mid.host) (output mid.log (Some page.written) page.faults)))
     (blank_is : blank.written ≡ []) (told : mid.host.is_short ≡ false) (replay : IsReplay mid.host)
     (mid_is : mid ≡ record old { daemon = mid.daemon; host = mid.host; log = mid.log })
@@ -119,7 +120,7 @@ module _ (law : Law) (policy : Policy) (turn : FeedTurn) (place : Place) (old mi
 
   rests : RestsAt policy.conf.now new.daemon new.host (after_turn place serves.taken)
   rests = subst (λ (daemon : DaemonState). RestsAt policy.conf.now daemon new.host (after_turn place serves.taken)) (sym daemon_is)
-      (subst (λ (host : Memory). RestsAt policy.conf.now mid.daemon host (after_turn place serves.taken)) (sym host_is)
+      (subst (λ (host : HostState). RestsAt policy.conf.now mid.daemon host (after_turn place serves.taken)) (sym host_is)
       (λ out. rests-output policy.conf.now (scene mid.daemon (view mid.host) (output mid.log (Some page.written) page.faults)) (after_turn place serves.taken) out serves.rests))
 
   written : HoldsPages old → Writes old.is_broken new.is_broken shown (printing old before) (printing new after)
@@ -147,12 +148,12 @@ module _ (law : Law) (policy : Policy) (turn : FeedTurn) (place : Place) (old mi
     of_turn = serves.of_turn;
     whole = serves.whole;
     rests = rests;
-    told = ap (λ (host : Memory). host.is_short) host_is ∙ told;
+    told = ap (λ (host : HostState). host.is_short) host_is ∙ told;
     replay = subst IsReplay (sym host_is) replay;
-    trace = ap (λ (host : Memory). host.trace) host_is ∙ trace_is;
-    faults = ap (λ (host : Memory). host.faults) host_is ∙ serves.disk;
+    trace = ap (λ (host : HostState). host.trace) host_is ∙ trace_is;
+    faults = ap (λ (host : HostState). host.faults) host_is ∙ serves.disk;
     calm = serves.adds.faults;
-    well = λ well. subst IsTrialTrace (sym (ap (λ (host : Memory). host.trace) host_is ∙ trace_is))
+    well = λ well. subst IsTrialTrace (sym (ap (λ (host : HostState). host.trace) host_is ∙ trace_is))
         (trial-trace law (old.host.trace ++ serves.taken.items) answers
         (well-push law (rules_by policy) place serves.taken old.host.trace serves.whole answers well.well));
     logs = λ sound. (

@@ -5,14 +5,14 @@ use Rattle.fk_trace.specs.Trace.Event.{Turn, Began, StartFailed, Ended, Runs, Po
 use Rattle.fk_host.specs.declared.host.StartErr.TheVariants.{Failed as NotStarted}
 use Rattle.fk_host.specs.Host.{is_running}
 use Rattle.fk_memory.specs.Children.{Children, above_children, start_answer, poll_answer, children_after}
-use Rattle.fk_memory.specs.Medium.{Memory}
+use Rattle.fk_memory.specs.Host.{HostState}
 
 -- the children of a new host: none, and nothing is scripted
 abbrev pub no_children : Children
-no_children = record { script = []; turns = 0; running = []; begun = 0; polls = 0; failing = []; faults = 0 }
+no_children = record { scripts = []; turns = 0; running = []; begun = 0; polls = 0; failing = []; faults = 0 }
 
 -- the host was just made, with empty areas
-abbrev pub IsNewHost : Memory → Type 0
+abbrev pub IsNewHost : HostState → Type 0
 IsNewHost host = host ≡ record {
   first = record { head = []; one = []; two = [] };
   calls = [];
@@ -44,10 +44,10 @@ AreAnswers children [] = Unit {0}
 AreAnswers children (item ∷ items) = IsAnswer children item.event × AreAnswers (children_after item.event children) items
 
 -- the trace of the host is one of answers, and its children stand behind it
-pub record IsReplay (host : Memory) : Type 0 where
+pub record IsReplay (host : HostState) : Type 0 where
   pub answers : AreAnswers no_children host.trace
   pub children : host.children ≡ children_behind no_children host.trace
 
 -- the host of a trial, unless it could not grow for its own record
-abbrev pub IsTrialHost : Memory → Type 0
+abbrev pub IsTrialHost : HostState → Type 0
 IsTrialHost host = host.is_short ≡ false → IsReplay host

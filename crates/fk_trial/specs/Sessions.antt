@@ -13,7 +13,7 @@ use Rattle.fk_run.specs.Legal.{LegalTurns}
 use Rattle.fk_host.specs.declared.stream.Source.{Ghosts as SourceMeaning}
 use Rattle.fk_host.specs.declared.stream.Sink.{Ghosts as SinkMeaning}
 use Rattle.fk_host.specs.Count.{counted}
-use Rattle.fk_memory.specs.Medium.{Memory, told_of, leaves_of, above_of}
+use Rattle.fk_memory.specs.Host.{HostState, told_of, leaves_of, above_of}
 use Rattle.fk_input.specs.Lines.{input_limit}
 use Rattle.fk_input.specs.Reading.{rest}
 use Rattle.fk_input.specs.Progress.{HasRead}
@@ -49,11 +49,11 @@ abbrev pub standing_by : {I K : Type 0} → SourceMeaning I → SinkMeaning K �
 standing_by source sink session input out = record { session = session; streams = streams_by source sink input out }
 
 -- what the host says
-abbrev pub view : Memory → View
+abbrev pub view : HostState → View
 view host = record { told = told_of host; images = leaves_of host; faults = host.faults; above = above_of host }
 
 -- whatever its output, the daemon over this host is at rest at the place
-abbrev pub RestsAt : Conf → DaemonState → Memory → Place → Type 0
+abbrev pub RestsAt : Conf → DaemonState → HostState → Place → Type 0
 RestsAt conf daemon host place = (out : Output) → AtRest conf (scene daemon (view host) out) place
 
 -- the log and what it is printed to; a write of it has failed where one to the output has
@@ -68,7 +68,7 @@ abbrev pub HoldsPages : Session → Type 0
 HoldsPages session = session.is_broken ≡ false → session.log.is_broken ≡ false
 
 -- a daemon was opened over an empty ledger
-pub record OpensDaemon (conf : Conf) (daemon : DaemonState) (host : Memory) : Type 0 where
+pub record OpensDaemon (conf : Conf) (daemon : DaemonState) (host : HostState) : Type 0 where
   pub rests : RestsAt conf daemon host (entry [])
   pub told : host.is_short ≡ false
   pub replay : IsReplay host

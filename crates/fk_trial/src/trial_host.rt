@@ -1,6 +1,6 @@
 //! The host of a trial.
 ghost use Rattle.std.specs.Prelude.{◌≡◌, IfOk};
-ghost use Rattle.fk_memory.specs.Medium.{told_of, leaves_of, above_of};
+ghost use Rattle.fk_memory.specs.Host.{told_of, leaves_of, above_of};
 ghost use Rattle.fk_memory.specs.Sound.{told_is_left};
 ghost use Rattle.fk_trial.specs.Replay.{IsNewHost, IsTrialHost};
 
@@ -17,10 +17,10 @@ pub(crate) struct TrialHost {
 }
 
 impl Model for TrialHost {
-    ghost use Rattle.fk_memory.specs.Medium.{Memory};
+    ghost use Rattle.fk_memory.specs.Host.{HostState};
     ghost use Rattle.fk_trial.specs.Replay.{IsTrialHost};
 
-    ghost Value = { Memory };
+    ghost Value = { HostState };
 
     ghost view = { λ t. t.host };
 

@@ -1,7 +1,7 @@
 use Rattle.std.proofs.Common.{◌≡◌, List, ℕ, sym, ap, subst, ◌∙◌}
 use Rattle.std.specs.List.Sorted.{IsPermutation}
 use Rattle.std.proofs.lemmas.List.Sorted.{IsPermutation-refl}
-use Rattle.fk_memory.specs.Medium.{told_of, leaves_of, above_of}
+use Rattle.fk_memory.specs.Host.{told_of, leaves_of, above_of}
 use Rattle.fk_ledger.specs.Book.{live_ids}
 use Rattle.fk_child.specs.Crew.{on_host}
 use Rattle.fk_child.proofs.Served.{resumed}

@@ -1,4 +1,4 @@
-use Rattle.fk_memory.specs.Medium.{told_of, leaves_of, above_of}
+use Rattle.fk_memory.specs.Host.{told_of, leaves_of, above_of}
 use Rattle.fk_child.specs.Crew.{on_host}
 use Rattle.fk_child.specs.Private.{MayServe}
 use Rattle.fk_child.proofs.tests.served.Given as goal

@@ -1,7 +1,7 @@
 use Rattle.std.proofs.Common.{◌≡◌, take, length, ℕ, List, ◌∙◌, ap, arith}
 use Rattle.std.proofs.lemmas.List.{length-take-le}
 use Rattle.fk_host.specs.declared.feed.TheConstants.{DATAGRAM_ROOM}
-use Rattle.fk_memory.proofs.Queues.{take_min, front_is}
+use Rattle.fk_memory.proofs.Feeds.{take_min, front_is}
 use Rattle.fk_memory.proofs.feed.copy_front.Goals as goal
 
 pub returns-clause-bytes : goal.returns-clause-bytes

@@ -1,10 +1,10 @@
 use Rattle.std.proofs.Common.{sym, subst, take}
 use Rattle.std.proofs.lemmas.Result.{IfOk-weaker}
-use Rattle.fk_memory.specs.Medium.{Medium, medium_after, MayHold}
+use Rattle.fk_memory.specs.Area.{AreaState, area_after, MayHold}
 use Rattle.fk_memory.specs.Sound.{sound_after, image_held}
 use Rattle.fk_memory.proofs.host.MemHost.image.Goals as goal
 
 pub returns-clause-left : goal.returns-clause-left
 returns-clause-left c =
-    let medium : Medium = medium_after c.args.self.now.first (take c.args.moment c.args.self.now.calls) c.args.area in
-    IfOk-weaker c.replayed.result _ (MayHold medium) (λ bytes is. subst (MayHold medium) (sym is) (image_held c.args.keep medium (sound_after c.args.self.now.first (take c.args.moment c.args.self.now.calls) c.args.area))) c.replayed.ensures
+    let state : AreaState = area_after c.args.self.now.first (take c.args.moment c.args.self.now.calls) c.args.area in
+    IfOk-weaker c.replayed.result _ (MayHold state) (λ bytes is. subst (MayHold state) (sym is) (image_held c.args.keep state (sound_after c.args.self.now.first (take c.args.moment c.args.self.now.calls) c.args.area))) c.replayed.ensures

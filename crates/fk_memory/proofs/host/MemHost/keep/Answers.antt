@@ -4,9 +4,8 @@ use Rattle.fk_trace.specs.Trace.{Event}
 use Rattle.fk_memory.specs.declared.host.Call.{Call}
 use Rattle.fk_memory.specs.declared.host.Call.TheVariants.{Other}
 use Rattle.fk_memory.specs.Children.{Children, children_after}
-use Rattle.fk_memory.specs.HostRecord.{CountsWithin, children_of, event_of}
-use Rattle.fk_memory.specs.Medium.{texts}
-use Rattle.fk_memory.proofs.Fates.{counts_next}
+use Rattle.fk_memory.specs.HostRecord.{CountsWithin, children_of, event_of, texts}
+use Rattle.fk_memory.proofs.ChildEvents.{counts_next}
 use Rattle.fk_memory.proofs.Moments.{other_passes}
 use Rattle.fk_memory.proofs.host.MemHost.keep.Goals as goal
 

@@ -1,8 +1,8 @@
 use Rattle.std.proofs.Common.{◌≡◌, [], ◌∷◌, ◌++◌, length, false, ap, ◌∙◌, arith, rules, is_err}
 use Rattle.std.proofs.lemmas.List.{length_push}
-use Rattle.fk_memory.specs.Medium.{texts}
-use Rattle.fk_memory.proofs.Fates.{counts_later}
-use Rattle.fk_memory.proofs.MemoryCalls.{not_err, texts_after}
+use Rattle.fk_memory.specs.HostRecord.{texts}
+use Rattle.fk_memory.proofs.ChildEvents.{counts_later}
+use Rattle.fk_memory.proofs.DiskCalls.{not_err, texts_after}
 use Rattle.fk_memory.proofs.host.MemHost.make.Goals as goal
 
 pub invariant_of-self-then-failed : goal.invariant_of-self-then-failed

@@ -1,5 +1,5 @@
 use Rattle.std.proofs.Common.{◌≡◌, take}
-use Rattle.fk_memory.specs.Medium.{at_rest, after_calls}
+use Rattle.fk_memory.specs.Area.{at_rest, after_calls}
 use Rattle.fk_host.specs.Disk.{area_of}
 use Rattle.fk_memory.proofs.host.MemHost.replayed.Given as goal
 

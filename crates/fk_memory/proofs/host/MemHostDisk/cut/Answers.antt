@@ -1,5 +1,5 @@
-use Rattle.fk_memory.proofs.MemoryCalls.{cut_ok, cut_err, leaves_host, has_cause}
-use Rattle.fk_memory.specs.Medium.{fails_next}
+use Rattle.fk_memory.proofs.DiskCalls.{cut_ok, cut_err, leaves_host, has_cause}
+use Rattle.fk_memory.specs.Host.{fails_next}
 use Rattle.fk_memory.specs.declared.host.Call.TheVariants.{Cut as Cuts}
 use Rattle.fk_memory.proofs.host.MemHostDisk.cut.Goals as goal
 

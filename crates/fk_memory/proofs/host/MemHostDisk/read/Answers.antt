@@ -1,5 +1,5 @@
-use Rattle.fk_memory.proofs.MemoryCalls.{other_called, leaves_host, has_cause, ok_told}
-use Rattle.fk_memory.specs.Medium.{fails_next}
+use Rattle.fk_memory.proofs.DiskCalls.{other_called, leaves_host, has_cause, ok_told}
+use Rattle.fk_memory.specs.Host.{fails_next}
 use Rattle.fk_host.specs.Disk.{area_of}
 use Rattle.std.proofs.Common.{◌≡◌, length, take, drop}
 use Rattle.fk_memory.specs.declared.host.Call.TheVariants.{Other}

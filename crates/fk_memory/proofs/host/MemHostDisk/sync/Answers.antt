@@ -1,5 +1,5 @@
-use Rattle.fk_memory.proofs.MemoryCalls.{sync_ok, sync_err, leaves_host, has_cause}
-use Rattle.fk_memory.specs.Medium.{fails_next}
+use Rattle.fk_memory.proofs.DiskCalls.{sync_ok, sync_err, leaves_host, has_cause}
+use Rattle.fk_memory.specs.Host.{fails_next}
 use Rattle.fk_memory.specs.declared.host.Call.TheVariants.{Sync as Syncs}
 use Rattle.fk_memory.proofs.host.MemHostDisk.sync.Goals as goal
 

@@ -1,5 +1,5 @@
-use Rattle.fk_memory.proofs.MemoryCalls.{write_ok, write_err, write_within, leaves_host, has_cause}
-use Rattle.fk_memory.specs.Medium.{fails_next, fails_to_write}
+use Rattle.fk_memory.proofs.DiskCalls.{write_ok, write_err, write_within, leaves_host, has_cause}
+use Rattle.fk_memory.specs.Host.{fails_next, fails_to_write}
 use Rattle.std.proofs.Common.{◌+◌, length}
 use Rattle.fk_memory.specs.declared.host.Call.TheVariants.{Write as Writes}
 use Rattle.fk_memory.proofs.host.MemHostDisk.write_at.Goals as goal

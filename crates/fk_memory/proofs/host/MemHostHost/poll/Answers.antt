@@ -1,5 +1,5 @@
 use Rattle.fk_host.specs.Host.{brought_by_poll}
-use Rattle.fk_memory.proofs.MemoryHosts.{calls_above, disk_same, poll_above}
+use Rattle.fk_memory.proofs.HostCalls.{calls_above, disk_same, poll_above}
 use Rattle.fk_memory.proofs.host.MemHostHost.poll.Goals as goal
 
 pub returns : goal.returns

@@ -1,5 +1,5 @@
 use Rattle.fk_host.specs.Host.{brought_by_start}
-use Rattle.fk_memory.proofs.MemoryHosts.{calls_above, disk_same, start_above, start_number}
+use Rattle.fk_memory.proofs.HostCalls.{calls_above, disk_same, start_above, start_number}
 use Rattle.fk_memory.proofs.host.MemHostHost.start.Goals as goal
 
 pub returns : goal.returns

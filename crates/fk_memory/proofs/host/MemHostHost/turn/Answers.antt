@@ -1,6 +1,6 @@
 use Rattle.std.proofs.Common.{Some}
 use Rattle.fk_trace.specs.Trace.Event.{Turn}
-use Rattle.fk_memory.proofs.MemoryHosts.{calls_above, disk_same, turn_above, turn_state}
+use Rattle.fk_memory.proofs.HostCalls.{calls_above, disk_same, turn_above, turn_state}
 use Rattle.fk_memory.proofs.host.MemHostHost.turn.Goals as goal
 
 pub returns : goal.returns

@@ -1,5 +1,5 @@
 use Rattle.std.proofs.Common.{◌≡◌, false, Option, Some, refl, sym, ap, ◌∙◌, subst}
-use Rattle.fk_memory.specs.Stock.{Stock}
+use Rattle.fk_memory.specs.Sink.{SinkState}
 use Rattle.fk_log.specs.Printing.{sink_by}
 use Rattle.fk_log.specs.Writing.{output}
 use Rattle.fk_turn.specs.Rules.{turn_of}
@@ -25,7 +25,7 @@ returns-in-Ok g c = λ place rests.
     printed-line (record { starts = law.starts; polls = law.polls; stays = law.stays; turns = law.turns; ends = law.ends }) c.args.policy.now (turn_of c.in-Some.turn) place c.print.result
     old mid c.print.new.self c.new-page.result c.serve.new.out (sink c.args.out.now) (sink c.print.new.out) line
     (c.in-Ok.ensures.serves place (rests (output old.log (Some c.new-page.result.written) c.new-page.result.faults)))
-    (ap (λ (page : Stock). page.written) c.new-page.ensures) told (c.is_short.ensures.replay told) refl
+    (ap (λ (page : SinkState). page.written) c.new-page.ensures) told (c.is_short.ensures.replay told) refl
     (subst (λ page. PrintsPage page c.print.result mid c.print.new.self (sink c.args.out.now) (sink c.print.new.out)) c.written.ensures c.print.ensures)
 
 pub returns : goal.returns

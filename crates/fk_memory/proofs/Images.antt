@@ -6,7 +6,7 @@ use Rattle.std.proofs.lemmas.Bool.{cases_lt}
 use Rattle.std.proofs.lemmas.List.{ext_get_or, length-take, length-drop, length-append, get_or-append_right, get_or_append_left, get_or-take, get_or-drop, take_all, take_at}
 use Rattle.std.proofs.lemmas.List.FromFn.{length-map-range_with_len, get_or-map-range_with_len}
 use Rattle.fk_host.specs.Disk.{Torn, Cut}
-use Rattle.fk_memory.specs.Medium.{Medium, MayHold, at_rest, after_write, after_cut, after_sync}
+use Rattle.fk_memory.specs.Area.{AreaState, MayHold, at_rest, after_write, after_cut, after_sync}
 use Rattle.fk_memory.specs.Sound.{IsSound}
 
 -- the bytes of an image before a write: in its range they are those that are on the disk
@@ -24,7 +24,7 @@ in_or_out : (at count i : ℕ) → ((at ≤ i) × (i < at + count)) ⊎ ((i < at
 in_or_out at count i = grind (arith, nat_tests)
 
 -- an image behind a write was torn from one before it
-pub write_leaves : (place : ℕ) (bytes : List ℕ) (failed : Bool) (m : Medium) (image : List ℕ) → IsSound m → MayHold (after_write place bytes failed m) image
+pub write_leaves : (place : ℕ) (bytes : List ℕ) (failed : Bool) (m : AreaState) (image : List ℕ) → IsSound m → MayHold (after_write place bytes failed m) image
     → (from : List ℕ) × MayHold m from × Torn (min place (length m.reads)) (length bytes) from image
 write_leaves place bytes failed m image sound held =
     let at : ℕ = min place (length m.reads) in
@@ -57,7 +57,7 @@ write_leaves place bytes failed m image sound held =
     )
 
 -- an image behind a cut was cut from one before it
-pub cut_leaves : (len : ℕ) (failed : Bool) (m : Medium) (image : List ℕ) → IsSound m → MayHold (after_cut len failed m) image
+pub cut_leaves : (len : ℕ) (failed : Bool) (m : AreaState) (image : List ℕ) → IsSound m → MayHold (after_cut len failed m) image
     → (from : List ℕ) × MayHold m from × Cut len from image
 cut_leaves len failed m image sound held =
     elim (cases_lt (length image) m.least) [
@@ -99,6 +99,6 @@ one_at_rest bytes image held =
     ext_get_or 0 image bytes same (λ i inside. held.kept i inside (omega (arith, same)) tt)
 
 -- an image behind a sync was one before it, and where the sync did not fail it is what a read gives
-pub sync_leaves : (failed : Bool) (m : Medium) (image : List ℕ) → IsSound m → MayHold (after_sync failed m) image → MayHold m image
+pub sync_leaves : (failed : Bool) (m : AreaState) (image : List ℕ) → IsSound m → MayHold (after_sync failed m) image → MayHold m image
 sync_leaves true m image sound held = held
 sync_leaves false m image sound held = subst (MayHold m) (sym (one_at_rest m.reads image held)) sound.reads

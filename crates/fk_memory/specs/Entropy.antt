@@ -2,7 +2,7 @@
 use Rattle.std.specs.Prelude.{ℕ, List}
 
 -- where entropy in memory stands
-pub record Pool : Type 0 where
+pub record EntropyState : Type 0 where
   -- the bytes that it has left
   pub left : List ℕ
   -- how often it has failed

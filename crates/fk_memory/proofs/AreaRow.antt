@@ -1,9 +1,9 @@
 -- A worked row: of three bytes, all of them on the disk, a write of two at the third goes one past the end. Before its sync a
 -- crash leaves the first two as they were and any byte behind them, or any two; after it, the four bytes that a read gives.
 use Rattle.std.proofs.Common.{◌≡◌, ◌⊎◌, ℕ, zero, suc, get_or, ◌<◌, ◌≤◌, false, List, [], ◌∷◌, refl, inl, inr, arith}
-use Rattle.fk_memory.specs.Medium.{Medium, at_rest, MayHold, after_write, after_sync}
+use Rattle.fk_memory.specs.Area.{AreaState, at_rest, MayHold, after_write, after_sync}
 
-abbrev written : Medium
+abbrev written : AreaState
 written = after_write 2 (120 ∷ 121 ∷ []) false (at_rest (97 ∷ 98 ∷ 99 ∷ []))
 
 reads : written.reads ≡ 97 ∷ 98 ∷ 120 ∷ 121 ∷ []

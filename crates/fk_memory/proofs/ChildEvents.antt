@@ -32,7 +32,7 @@ counts_next old new event most is within =
     counts (Runs number) c most a b p = (omega arith, omega arith, omega arith)
     counts (PollFailed number) c most a b p = (omega arith, omega arith, omega arith)
 
--- the children that are left after an end, with their fates and without them
+-- the children that are left after an end, with their scripts and without them
 filter-child_of : (number : ℕ) (held : List HeldChild)
     → map child_of (filter (λ h. not (h.number == number)) held) ≡ filter (λ child. not (child.number == number)) (map child_of held)
 filter-child_of number [] = refl
@@ -56,7 +56,7 @@ pub above_next : (event : Event) (c : Children) → last_child_after event c.beg
 above_next (Turn number) c last = same_above c c.faults c.begun refl
 above_next (Began number purpose words) c last =
     let of : List Child → ℕ → Above = λ running last. record { running = running; faults = c.faults; last_child = last } in
-    ap (λ cs. of cs (c.begun + 1)) (map-append child_of c.running (record { number = number; purpose = purpose; fate = _; turn = c.turns } ∷ []))
+    ap (λ cs. of cs (c.begun + 1)) (map-append child_of c.running (record { number = number; purpose = purpose; script = _; turn = c.turns } ∷ []))
     ∙ ap (λ n. of (map child_of c.running ++ record { number = number; purpose = purpose } ∷ []) n) (sym last)
 above_next (StartFailed purpose words) c last = same_above c _ c.begun refl
 above_next (Ended number good) c last =

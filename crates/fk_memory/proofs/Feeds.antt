@@ -10,7 +10,7 @@ use Rattle.fk_trace.specs.Decision.Input.{Quiet}
 use Rattle.fk_host.specs.declared.feed.Input.TheVariants.{End}
 use Rattle.fk_host.specs.declared.feed.Turn.{Turn}
 use Rattle.fk_host.specs.Feed.{Given, turns_of, turns_of_input}
-use Rattle.fk_memory.specs.Queue.{Queue, cut_turn, given_by, end_moment, IsNext, after_turn}
+use Rattle.fk_memory.specs.Feed.{FeedState, cut_turn, given_by, end_moment, IsNext, after_turn}
 
 -- what stands in front of a list is its first part
 pub front_is : {X : Type 0} (front rest : List X) (len : ℕ) → length front ≡ len → take len (front ++ rest) ≡ front
@@ -29,28 +29,28 @@ lt_true a b below = grind (arith, nat_tests)
 lt_false : (a b : ℕ) → b ≤ a → nat_lt a b ≡ false
 lt_false a b above = grind (arith, nat_tests)
 
-given_turns : (queue : Queue) (turn : Turn) (buffer : List ℕ) (next : Option FeedTurn) → slice_get queue.turns queue.given ≡ next
-    → MatchOption next ((turn.input ≡ End) × (turn.moment ≡ end_moment queue.turns)) (λ next. turns_of turn buffer ≡ cut_turn next ∷ [])
-    → given_by (after_turn queue) ≡ Some (record { turns = map cut_turn (take queue.given queue.turns) ++ turns_of turn buffer; port = queue.port })
-given_turns queue turn buffer (Some next) is answer =
-    let inside : queue.given < length queue.turns = slice_get_within queue.turns queue.given next is in
-    let of : List FeedTurn → Option Given = λ turns. Some (record { turns = turns; port = queue.port }) in
-    let more : take (queue.given + 1) queue.turns ≡ take queue.given queue.turns ++ next ∷ [] =
-    take_more queue.turns queue.given next inside ∙ ap (λ t. take queue.given queue.turns ++ t ∷ []) (get_or_from_slice_get queue.turns queue.given next next is) in
-    ap (λ (b : Bool). given_by (if b then record queue { given = queue.given + 1; has_ended = false } else record queue { has_ended = true })) (lt_true queue.given (length queue.turns) inside)
-    ∙ ap of (ap (map cut_turn) more ∙ map-append cut_turn (take queue.given queue.turns) (next ∷ []) ∙ ap (λ ts. map cut_turn (take queue.given queue.turns) ++ ts) (sym answer))
-given_turns queue turn buffer None is answer =
-    let past : length queue.turns ≤ queue.given = past_end (cases_lt queue.given (length queue.turns)) in
-    let of : List FeedTurn → Option Given = λ turns. Some (record { turns = turns; port = queue.port }) in
-    ap (λ (b : Bool). given_by (if b then record queue { given = queue.given + 1; has_ended = false } else record queue { has_ended = true })) (lt_false queue.given (length queue.turns) past)
-    ∙ ap of (sym (append-nil (map cut_turn (take queue.given queue.turns))) ∙ ap (λ input. map cut_turn (take queue.given queue.turns) ++ turns_of_input turn.moment buffer input) (sym answer.0))
+given_turns : (feed : FeedState) (turn : Turn) (buffer : List ℕ) (next : Option FeedTurn) → slice_get feed.turns feed.given ≡ next
+    → MatchOption next ((turn.input ≡ End) × (turn.moment ≡ end_moment feed.turns)) (λ next. turns_of turn buffer ≡ cut_turn next ∷ [])
+    → given_by (after_turn feed) ≡ Some (record { turns = map cut_turn (take feed.given feed.turns) ++ turns_of turn buffer; port = feed.port })
+given_turns feed turn buffer (Some next) is answer =
+    let inside : feed.given < length feed.turns = slice_get_within feed.turns feed.given next is in
+    let of : List FeedTurn → Option Given = λ turns. Some (record { turns = turns; port = feed.port }) in
+    let more : take (feed.given + 1) feed.turns ≡ take feed.given feed.turns ++ next ∷ [] =
+    take_more feed.turns feed.given next inside ∙ ap (λ t. take feed.given feed.turns ++ t ∷ []) (get_or_from_slice_get feed.turns feed.given next next is) in
+    ap (λ (b : Bool). given_by (if b then record feed { given = feed.given + 1; has_ended = false } else record feed { has_ended = true })) (lt_true feed.given (length feed.turns) inside)
+    ∙ ap of (ap (map cut_turn) more ∙ map-append cut_turn (take feed.given feed.turns) (next ∷ []) ∙ ap (λ ts. map cut_turn (take feed.given feed.turns) ++ ts) (sym answer))
+given_turns feed turn buffer None is answer =
+    let past : length feed.turns ≤ feed.given = past_end (cases_lt feed.given (length feed.turns)) in
+    let of : List FeedTurn → Option Given = λ turns. Some (record { turns = turns; port = feed.port }) in
+    ap (λ (b : Bool). given_by (if b then record feed { given = feed.given + 1; has_ended = false } else record feed { has_ended = true })) (lt_false feed.given (length feed.turns) past)
+    ∙ ap of (sym (append-nil (map cut_turn (take feed.given feed.turns))) ∙ ap (λ input. map cut_turn (take feed.given feed.turns) ++ turns_of_input turn.moment buffer input) (sym answer.0))
   where
-    past_end : (queue.given < length queue.turns) ⊎ (length queue.turns ≤ queue.given) → length queue.turns ≤ queue.given
-    past_end (inl inside) = absurd (let e = sym is ∙ slice_get-get_or queue.turns queue.given (record { moment = 0; input = Quiet }) inside in cc)
+    past_end : (feed.given < length feed.turns) ⊎ (length feed.turns ≤ feed.given) → length feed.turns ≤ feed.given
+    past_end (inl inside) = absurd (let e = sym is ∙ slice_get-get_or feed.turns feed.given (record { moment = 0; input = Quiet }) inside in cc)
     past_end (inr past) = past
 
 -- a turn more is told
-pub gives_turn : (old : Queue) (fails_in : ℕ) (new : Queue) (turn : Turn) (buffer : List ℕ) → IsNext old turn buffer → new ≡ after_turn (record old { fails_in = fails_in })
+pub gives_turn : (old : FeedState) (fails_in : ℕ) (new : FeedState) (turn : Turn) (buffer : List ℕ) → IsNext old turn buffer → new ≡ after_turn (record old { fails_in = fails_in })
     → given_by new ≡ Some (record { turns = map cut_turn (take old.given old.turns) ++ turns_of turn buffer; port = old.port })
 gives_turn old fails_in new turn buffer next state = ap given_by state ∙ given_turns (record old { fails_in = fails_in }) turn buffer (slice_get old.turns old.given) refl next
 

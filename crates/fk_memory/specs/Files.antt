@@ -9,7 +9,7 @@ use Rattle.fk_base.specs.declared.file.TheConstants.{FILE_LIMIT}
 use Rattle.fk_host.specs.Files.{bytes_of_file}
 
 -- where files in memory stand
-pub record Shelf : Type 0 where
+pub record FilesState : Type 0 where
   -- what is held
   pub held : List HeldFile
   -- the names of which each read was told to fail
@@ -22,10 +22,10 @@ abbrev pub is_among : List ℕ → List (List ℕ) → Bool
 is_among name names = list_any (λ other. bytes_eq other name) names
 
 -- the fault of a read of what is held: it was told to fail, or the file is too long
-abbrev pub fault_of_held : Shelf → List ℕ → Option (List ℕ) → Option FileErr
-fault_of_held shelf name None = Some Missing
-fault_of_held shelf name (Some bytes) = if is_among name shelf.failing || nat_lt FILE_LIMIT (length bytes) then Some Failed else None
+abbrev pub fault_of_held : FilesState → List ℕ → Option (List ℕ) → Option FileErr
+fault_of_held files name None = Some Missing
+fault_of_held files name (Some bytes) = if is_among name files.failing || nat_lt FILE_LIMIT (length bytes) then Some Failed else None
 
 -- the fault of a read of this name, if there is one: the file isn't held, else the read was told to fail or the file is too long
-abbrev pub read_fault : Shelf → List ℕ → Option FileErr
-read_fault shelf name = fault_of_held shelf name (bytes_of_file name shelf.held)
+abbrev pub read_fault : FilesState → List ℕ → Option FileErr
+read_fault files name = fault_of_held files name (bytes_of_file name files.held)

@@ -2,7 +2,7 @@
 use Rattle.std.specs.Prelude.{ℕ, List, length, min}
 
 -- where a source in memory stands
-pub record Supply : Type 0 where
+pub record SourceState : Type 0 where
   -- the bytes that it has left
   pub left : List ℕ
   -- how many bytes a read gives at most
@@ -13,5 +13,5 @@ pub record Supply : Type 0 where
   pub faults : ℕ
 
 -- how many bytes a read gives: as many as there are, as fit the buffer and as go into one read
-abbrev pub given_count : Supply → ℕ → ℕ
-given_count supply room = min (min room supply.most) (length supply.left)
+abbrev pub given_count : SourceState → ℕ → ℕ
+given_count source room = min (min room source.most) (length source.left)

@@ -10,7 +10,7 @@ use Rattle.fk_host.specs.Count.{counted}
 use Rattle.fk_host.specs.Feed.{Given, turns_of}
 
 -- where a feed in memory stands
-pub record Queue : Type 0 where
+pub record FeedState : Type 0 where
   -- its turns, with each datagram whole
   pub turns : List FeedTurn
   -- how many of them it has given
@@ -38,8 +38,8 @@ abbrev pub cut_turn : FeedTurn → FeedTurn
 cut_turn turn = record { moment = turn.moment; input = cut_input turn.input }
 
 -- what the feed tells
-abbrev pub given_by : Queue → Option Given
-given_by queue = Some (record { turns = map cut_turn (take queue.given queue.turns); port = queue.port })
+abbrev pub given_by : FeedState → Option Given
+given_by feed = Some (record { turns = map cut_turn (take feed.given feed.turns); port = feed.port })
 
 abbrev pub moment_of : Option FeedTurn → ℕ
 moment_of None = 0
@@ -50,22 +50,22 @@ abbrev pub end_moment : List FeedTurn → ℕ
 end_moment turns = moment_of (slice_get turns (length turns - 1))
 
 -- the answer in this buffer is the next turn, or behind the last turn the end
-abbrev pub IsNext : Queue → Turn → List ℕ → Type 0
-IsNext queue turn buffer =
-    MatchOption (slice_get queue.turns queue.given)
-    ((turn.input ≡ End) × (turn.moment ≡ end_moment queue.turns))
+abbrev pub IsNext : FeedState → Turn → List ℕ → Type 0
+IsNext feed turn buffer =
+    MatchOption (slice_get feed.turns feed.given)
+    ((turn.input ≡ End) × (turn.moment ≡ end_moment feed.turns))
     (λ next. turns_of turn buffer ≡ cut_turn next ∷ [])
 
 -- the feed after it has given its next turn, or the end
-abbrev pub after_turn : Queue → Queue
-after_turn queue =
-    if nat_lt queue.given (length queue.turns)
-    then record queue { given = queue.given + 1; has_ended = false }
-    else record queue { has_ended = true }
+abbrev pub after_turn : FeedState → FeedState
+after_turn feed =
+    if nat_lt feed.given (length feed.turns)
+    then record feed { given = feed.given + 1; has_ended = false }
+    else record feed { has_ended = true }
 
 -- the feed after a call for a turn
-abbrev pub after_next : Queue → Queue
-after_next queue =
-    if queue.fails_in == 1
-    then record queue { fails_in = 0; has_ended = false; faults = counted queue.faults }
-    else after_turn (record queue { fails_in = queue.fails_in - 1 })
+abbrev pub after_next : FeedState → FeedState
+after_next feed =
+    if feed.fails_in == 1
+    then record feed { fails_in = 0; has_ended = false; faults = counted feed.faults }
+    else after_turn (record feed { fails_in = feed.fails_in - 1 })
