@@ -7,3 +7,4 @@ pub mod Stopping
 pub mod Looping
 pub mod Ending
 pub mod Causing
+pub mod Visiting

@@ -7,6 +7,7 @@
 //! Start at `serving`; `specs/Serving.antt` says what a run of it does.
 #![tactic(auto)]
 
+mod laws;
 mod opening;
 mod serving;
 mod session;
@@ -14,5 +15,6 @@ mod task;
 #[cfg(test)]
 mod tests;
 
+pub use laws::what_serving_leaves_is_of_a_visit;
 pub use serving::serve;
 pub use task::Task;

@@ -4,3 +4,4 @@ pub mod Ended
 pub mod Served
 pub mod Tried
 pub mod Complete
+pub mod Calling

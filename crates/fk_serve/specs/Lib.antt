@@ -5,4 +5,5 @@ pub mod Listing
 pub mod Running
 pub mod Causes
 pub mod Ready
+pub mod Calls
 pub mod Private

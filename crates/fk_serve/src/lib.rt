@@ -10,6 +10,7 @@
 mod fault_names;
 mod files;
 mod help;
+mod history;
 mod limits;
 mod listing;
 mod running;
@@ -18,5 +19,6 @@ mod serving;
 mod tests;
 mod trying;
 
+pub use history::calls_of_the_program_are_a_history;
 pub use limits::limits_have_their_numbers;
 pub use running::fwknopd_run;
