@@ -3,6 +3,8 @@ use Rattle.std.proofs.Common.{◌≡◌, ℕ, ◌≤◌, Bool, true, false, cond
 use Rattle.fk_base.specs.declared.status.Status.{Status}
 use Rattle.fk_trace.specs.declared.change.Change.{Change}
 use Rattle.fk_trace.specs.Ledger.{after, live}
+use Rattle.fk_run.specs.Place.{entry}
+use Rattle.fk_run.specs.Turn.{after_turns}
 use Rattle.fk_run.specs.Run.{Run, Ending, trace_of, changes_of}
 use Rattle.fk_host.specs.Count.{counted}
 use Rattle.fk_host.specs.Disk.{IfTold}
@@ -31,8 +33,9 @@ use Rattle.fk_log.specs.Printing.{SinkView, Prints}
 use Rattle.fk_daemon.specs.Outside.{Outside}
 use Rattle.fk_daemon.specs.Account.{tried_changes, is_whole}
 use Rattle.fk_daemon.specs.Moments.{RunMoments}
-use Rattle.fk_daemon.specs.Serving.{HasStatus, AsksHost, HasCauses, ServesRun, OpensInVain, OpensNoLedger, SaysWhyUnopened}
+use Rattle.fk_daemon.specs.Serving.{HasStatus, CallsBehind, HasCauses, ServesRun, OpensInVain, OpensNoLedger, SaysWhyUnopened}
 use Rattle.fk_daemon.specs.Sessions.{HoldsCrash, Standing, Begins, OpensDaemon, HasOpeningCause, SaysFault, Finishes, SaysEnd, MaySumUp, new_log, ending_of, summary_by, output_of}
+use Rattle.fk_daemon.proofs.Stopping.{wants-calls}
 use Rattle.fk_daemon.proofs.Telling.{told-join, told-both, items-behind, opening-later, opened-then}
 use Rattle.fk_daemon.proofs.Crashing.{SettlesCleanly, AttemptsOnce, moments-join}
 
@@ -142,11 +145,13 @@ module _ (task : Task) (old : Outside) (host : View) (daemon : DaemonState) (how
       trace = told-join old.host.told host.told late.host.told (λ x y. (y.trace ≡ x.trace) × (x.moments ≤ y.moments)) (AddsItems (trace_of run)) (AddsItems (trace_of run))
           (items-behind (trace_of run)) trace-kept run_is.adds.trace;
       moments = all-moments;
-      asked = λ wants front last placed.
-          told-join old.host.told host.told late.host.told (λ x y. (y.trace ≡ x.trace) × (x.moments ≤ y.moments)) (λ x y. AsksHost last y) (λ x y. AsksHost last y)
-          (λ x y z f g. g) trace-kept (run_is.asked wants front last placed);
       others = all-others;
     };
+    memory = λ wants front last placed.
+        wants-calls task.policy (after_turns (entry run.ledger) front) last (λ more. IfTold host.told late.host.told (λ x y. CallsBehind more last y))
+        (λ more. IfTold old.host.told late.host.told (λ x y. CallsBehind more last y))
+        (λ more calls. told-join old.host.told host.told late.host.told (λ x y. (y.trace ≡ x.trace) × (x.moments ≤ y.moments)) (λ x y. CallsBehind more last y) (λ x y. CallsBehind more last y)
+        (λ x y z f g. g) trace-kept calls) (run_is.memory wants front last placed);
     is_broken = says.0.is_broken;
     printed = prints says.0.is_broken (shown_text task.verbosity (before ++ last run.ending)) (output (new_log task.verbosity) old.sink.written old.sink.faults)
         (output says.0 sink.written sink.faults) whole-log.written;

@@ -94,8 +94,6 @@ finish-unopened task ledger old feed limits begins given fails logs = record {
     ledger = begins.rests.stands.stands.keeps.follow;
     legal = record { turns = tt; no_fault_before = tt; numbered = begins.rests.stands.stands.tied.stands.orderly.numbered };
     limits = record { fits = none_reached task.limits limits; before = λ front taken later e reached. no_turn_before front taken later e };
-    memory = λ wants front last placed. absurd cc;
-    code = λ wants front last placed. absurd cc;
     settled = λ wants front last placed. absurd cc;
     wants = λ wants none. cc;
     opens = (refl, refl);
@@ -104,7 +102,7 @@ finish-unopened task ledger old feed limits begins given fails logs = record {
   };
   given = given;
   adds = adds-no_turn (rules_by task.policy) ledger old.outside.host.faults AtFeedFault old.outside.host begins.rests.stands.stands.keeps;
-  asked = λ wants front last placed. absurd cc;
+  memory = λ wants front last placed. absurd cc;
   caused = record { feed = fails; disk = refl; end = tt };
   logs = logs;
   parks = begins.rests.stands.stands.tied.owes ∙ ap live_ids (sym begins.rests.stands.changes);

@@ -26,6 +26,8 @@ use Rattle.fk_log.specs.Writing.{Logs}
 use Rattle.fk_log.proofs.Turns.{lines_of_turns-append}
 use Rattle.fk_child.specs.View.{MakesCalls, AddsItems, Adds, made_of}
 use Rattle.fk_turn.specs.Rules.{BringsRightCode, rules_by}
+use Rattle.fk_turn.specs.declared.policy.Policy.{Policy}
+use Rattle.fk_turn.specs.Wanting.{WantsMemoryAt}
 use Rattle.fk_turn.specs.Serving.{BeginsAt, FailsAtDisk, WantsMemory, OwesItsLive, calls_for}
 use Rattle.fk_daemon.specs.declared.task.Task.{Task}
 use Rattle.fk_daemon.specs.declared.session.Session.{Session}
@@ -33,7 +35,7 @@ use Rattle.fk_daemon.specs.declared.session.Stop.{Stop}
 use Rattle.fk_daemon.specs.declared.session.Stop.TheVariants as stop
 use Rattle.fk_daemon.specs.Outside.{Feeds}
 use Rattle.fk_daemon.specs.Account.{Account, FailsNext, IsServing}
-use Rattle.fk_daemon.specs.Serving.{AsksHost, HasCauses}
+use Rattle.fk_daemon.specs.Serving.{CallsBehind, HasCauses}
 use Rattle.fk_daemon.specs.Sessions.{AddsTurns, Standing, Takes, TakesNone, SumsUp, MaySumUp, Finishes, ending_of, run_of, output_of, scene_of}
 use Rattle.fk_daemon.proofs.Behind.{items_in, changes_in, changes-push, ledger-behind, last-push, legal-whole, legal-cut, planned-push, feeds-then, cases-push, last-one}
 use Rattle.fk_daemon.proofs.Crashing.{AreNumbered, adds-ending}
@@ -81,8 +83,6 @@ serving-uncut task ledger ending turns old now going whole fits tells fails = re
     numbered = numbered-behind task ledger turns old now going;
   };
   limits = record { fits = fits; before = going.before };
-  memory = λ wants front last placed. absurd (let never : true ≡ false = ap cuts_turn (sym wants) ∙ whole in cc);
-  code = λ wants front last placed. absurd (let never : true ≡ false = ap cuts_turn (sym wants) ∙ whole in cc);
   settled = λ wants front last placed. absurd (let never : true ≡ false = ap cuts_turn (sym wants) ∙ whole in cc);
   wants = λ wants none. let never : true ≡ false = ap cuts_turn (sym wants) ∙ whole in cc;
   opens = tt;
@@ -101,7 +101,7 @@ finish-uncut task ledger how turns old now going whole serving caused = record {
   given = going.given;
   adds = subst (λ (tried : List Change). AddsTurns (run_of task ledger old.outside.host.faults (ending_of how) turns) tried old.outside.host now.outside.host) (sym (append-nil (changes_in turns)))
       (adds-ending (rules_by task.policy) ledger old.outside.host.faults AtLimit (ending_of how) turns (changes_in turns) old.outside.host now.outside.host going.adds);
-  asked = λ wants front last placed. absurd (let never : true ≡ false = ap cuts_turn (sym wants) ∙ whole in cc);
+  memory = λ wants front last placed. absurd (let never : true ≡ false = ap cuts_turn (sym wants) ∙ whole in cc);
   caused = caused;
   logs = going.logs;
   parks = parks-behind task ledger turns old now going;
@@ -150,13 +150,6 @@ module _ (task : Task) (ledger : List Change) (turns : List TakenTurn) (old mid 
   abbrev Settles : List TakenTurn → TakenTurn → Type 0
   Settles front last = map Done (dones last.changes) ≡ settlements (after_turns (entry ledger) front).past last.items
 
-  abbrev Wants : List TakenTurn → TakenTurn → Type 0
-  Wants front last =
-      WantsAtDatagram (rules_by task.policy) (after_turns (entry ledger) front) last ⊎ WantsAtClose (rules_by task.policy) (after_turns (entry ledger) front) last
-
-  abbrev Codes : List TakenTurn → TakenTurn → Type 0
-  Codes front last = BringsRightCode task.policy last.turn ⊎ WantsAtClose (rules_by task.policy) (after_turns (entry ledger) front) last
-
   -- what is said of the turn that was cut
   record Cuts (ending : Ending) (refusal : RefusalLine) (failing : List Change) (whole : Bool) : Type 0 where
     may : IsTrue (cuts_turn ending)
@@ -166,8 +159,6 @@ module _ (task : Task) (ledger : List Change) (turns : List TakenTurn) (old mid 
     least : length taken.changes ≤ made_of whole (taken.changes ++ failing)
     numbered : AreNumbered (past_after place.past taken.items)
     adds : Adds taken.items place.ledger (taken.changes ++ failing) whole mid.outside.host new.outside.host
-    wants : ending ≡ AtWantOfMemory → Wants turns taken
-    code : ending ≡ AtWantOfMemory → Codes turns taken
     settled : ending ≡ AtWantOfMemory → Settles turns taken
     tells : MayTellAt ending taken.items refusal
     fails : FailsNext ending failing (run_of task ledger old.outside.host.faults ending all)
@@ -198,12 +189,6 @@ module _ (task : Task) (ledger : List Change) (turns : List TakenTurn) (old mid 
       ];
     };
     wants = λ wants none. none_before turns taken [] (sym none);
-    memory = λ wants front last placed.
-        let one = last-one turns front taken last placed in
-        subst (λ (t : TakenTurn). Wants front t) (sym one.1) (subst (λ (f : List TakenTurn). Wants f taken) (sym one.0) (cuts.wants wants));
-    code = λ wants front last placed.
-        let one = last-one turns front taken last placed in
-        subst (λ (t : TakenTurn). Codes front t) (sym one.1) (subst (λ (f : List TakenTurn). Codes f taken) (sym one.0) (cuts.code wants));
     settled = λ wants front last placed.
         let one = last-one turns front taken last placed in
         subst (λ (t : TakenTurn). Settles front t) (sym one.1) (subst (λ (f : List TakenTurn). Settles f taken) (sym one.0) (cuts.settled wants));
@@ -227,34 +212,30 @@ module _ (task : Task) (ledger : List Change) (turns : List TakenTurn) (old mid 
       (ap (λ (t : FeedTurn). map (λ (t : TakenTurn). t.turn) turns ++ t ∷ []) (sym is) ∙ sym (map-append (λ (t : TakenTurn). t.turn) turns (taken ∷ []))) feed
 
 -- what the turn's own calls say of the moments behind its first item
-asks-from : (last : TakenTurn) (items : List Item) → last.items ≡ items → (x y : TellsOf) → BeginsAt (x.moments + 1) items
-    → ((opens last.changes ≡ []) × (y.moments ≡ x.moments + calls_for items last.changes)) ⊎ (y.moments ≡ x.moments + (calls_for items last.changes + 1)) → AsksHost last y
-asks-from last [] e x y begun calls = absurd begun
-asks-from last (start ∷ further) e x y begun calls = record {
-  start = start;
-  further = further;
-  items = e;
-  calls = elim calls [
-    | inl none ↦ let made = none.1 in inl (none.0, omega (arith, begun, made))
-    | inr made ↦ inr (omega (arith, begun, made))
-  ];
-}
+calls-from : (more : ℕ) (last : TakenTurn) (items : List Item) → last.items ≡ items → (x y : TellsOf) → BeginsAt (x.moments + 1) items
+    → y.moments ≡ x.moments + (calls_for items last.changes + more) → CallsBehind more last y
+calls-from more last [] e x y begun calls = absurd begun
+calls-from more last (start ∷ further) e x y begun calls = record { start = start; further = further; items = e; calls = omega (arith, begun, calls) }
 
 -- in the turn that wanted memory, behind the turns before it
-asks-behind : (task : Task) (ledger : List Change) (turns : List TakenTurn) (old mid new : Standing) → Going task ledger turns old mid → (taken : TakenTurn)
+calls-behind : (task : Task) (ledger : List Change) (turns : List TakenTurn) (old mid new : Standing) → Going task ledger turns old mid → (taken : TakenTurn)
     → IfTold mid.outside.host.told new.outside.host.told (λ before later. BeginsAt (before.moments + 1) taken.items)
-    → ((opens taken.changes ≡ []) × MakesCalls (calls_for taken.items taken.changes) mid.outside.host new.outside.host)
-    ⊎ MakesCalls (calls_for taken.items taken.changes + 1) mid.outside.host new.outside.host
-    → IfTold old.outside.host.told new.outside.host.told (λ before later. AsksHost taken later)
-asks-behind task ledger turns old mid new going taken begun calls =
-    let here : IfTold mid.outside.host.told new.outside.host.told (λ before later. AsksHost taken later) =
-    elim calls [
-      | inl none ↦ told-both mid.outside.host.told new.outside.host.told (λ x y. BeginsAt (x.moments + 1) taken.items) (λ x y. y.moments ≡ x.moments + calls_for taken.items taken.changes)
-          (λ x y. AsksHost taken y) (λ x y b c. asks-from taken taken.items refl x y b (inl (none.0, c))) begun none.1
-      | inr made ↦ told-both mid.outside.host.told new.outside.host.told (λ x y. BeginsAt (x.moments + 1) taken.items) (λ x y. y.moments ≡ x.moments + (calls_for taken.items taken.changes + 1))
-          (λ x y. AsksHost taken y) (λ x y b c. asks-from taken taken.items refl x y b (inr c)) begun made
-    ] in
-    told-join old.outside.host.told mid.outside.host.told new.outside.host.told (AddsItems (items_in turns)) (λ x y. AsksHost taken y) (λ x y. AsksHost taken y) (λ x y z f g. g) going.adds.trace here
+    → (more : ℕ) → MakesCalls (calls_for taken.items taken.changes + more) mid.outside.host new.outside.host
+    → IfTold old.outside.host.told new.outside.host.told (λ before later. CallsBehind more taken later)
+calls-behind task ledger turns old mid new going taken begun more calls =
+    let here : IfTold mid.outside.host.told new.outside.host.told (λ before later. CallsBehind more taken later) =
+    told-both mid.outside.host.told new.outside.host.told (λ x y. BeginsAt (x.moments + 1) taken.items) (λ x y. y.moments ≡ x.moments + (calls_for taken.items taken.changes + more))
+        (λ x y. CallsBehind more taken y) (λ x y b c. calls-from more taken taken.items refl x y b c) begun calls in
+    told-join old.outside.host.told mid.outside.host.told new.outside.host.told (AddsItems (items_in turns)) (λ x y. CallsBehind more taken y) (λ x y. CallsBehind more taken y)
+    (λ x y z f g. g) going.adds.trace here
+
+-- where memory is wanting is told whatever is said of the calls
+pub wants-calls : (policy : Policy) (place : Place) (taken : TakenTurn) (Called Others : ℕ → Type 0) → ((more : ℕ) → Called more → Others more)
+    → WantsMemoryAt policy place taken Called → WantsMemoryAt policy place taken Others
+wants-calls policy place taken Called Others f wants = elim wants [
+  | inl before ↦ inl (record { cause = before.cause; unrecorded = before.unrecorded; calls = f 0 before.calls })
+  | inr start ↦ inr (record { cause = start.cause; calls = f 1 start.calls })
+]
 
 -- the disk failed in a turn
 pub finish-disk : (task : Task) (ledger : List Change) (turns : List TakenTurn) (old mid new : Standing) (turn : FeedTurn) → Going task ledger turns old mid
@@ -276,8 +257,6 @@ finish-disk task ledger turns old mid new turn going calm under takes fails =
       least = let both = length-append taken.changes next in omega (arith, both);
       numbered = fails.numbered;
       adds = fails.adds;
-      wants = λ wants. absurd cc;
-      code = λ wants. absurd cc;
       settled = λ wants. absurd cc;
       tells = refl;
       fails = (fails.next, fails.later, refl, planned_is);
@@ -290,7 +269,7 @@ finish-disk task ledger turns old mid new turn going calm under takes fails =
       serving = serving-cut task ledger turns old mid new taken going AtDiskFault Untold next false cuts under;
       given = cut-given task ledger turns old mid new taken going turn fails.of_turn takes;
       adds = cut-adds task ledger turns old mid new taken going AtDiskFault Untold next false cuts;
-      asked = λ wants. absurd cc;
+      memory = λ wants. absurd cc;
       caused = record { feed = takes.faults ∙ calm; disk = fails.disk ∙ ap counted going.disk; end = tt };
       logs = cut-logs task ledger turns old mid new taken going AtDiskFault Untold next false cuts;
       parks = fails.parks;
@@ -312,8 +291,6 @@ finish-memory task ledger turns old mid new turn going calm under takes wants =
       least = let both = length-append taken.changes [] in omega (arith, both);
       numbered = wants.numbered;
       adds = subst (λ (changes : List Change). Adds taken.items (after_turns (entry ledger) turns).ledger changes true mid.outside.host new.outside.host) (sym (append-nil taken.changes)) wants.adds;
-      wants = λ e. wants.cause;
-      code = λ e. wants.code;
       settled = λ e. wants.settled;
       tells = wants.may;
       fails = refl;
@@ -326,9 +303,12 @@ finish-memory task ledger turns old mid new turn going calm under takes wants =
       serving = serving-cut task ledger turns old mid new taken going AtWantOfMemory wants.told [] true cuts under;
       given = cut-given task ledger turns old mid new taken going turn wants.of_turn takes;
       adds = cut-adds task ledger turns old mid new taken going AtWantOfMemory wants.told [] true cuts;
-      asked = λ ending front last placed.
-          subst (λ (t : TakenTurn). IfTold old.outside.host.told new.outside.host.told (λ x y. AsksHost t y)) (sym (last-one turns front taken last placed).1)
-          (asks-behind task ledger turns old mid new going taken wants.begun wants.asked);
+      memory = λ ending front last placed.
+          let one = last-one turns front taken last placed in
+          subst (λ (t : TakenTurn). WantsMemoryAt task.policy (after_turns (entry ledger) front) t (λ more. IfTold old.outside.host.told new.outside.host.told (λ x y. CallsBehind more t y))) (sym one.1)
+          (subst (λ (f : List TakenTurn). WantsMemoryAt task.policy (after_turns (entry ledger) f) taken (λ more. IfTold old.outside.host.told new.outside.host.told (λ x y. CallsBehind more taken y))) (sym one.0)
+          (wants-calls task.policy (after_turns (entry ledger) turns) taken (λ more. MakesCalls (calls_for taken.items taken.changes + more) mid.outside.host new.outside.host)
+          (λ more. IfTold old.outside.host.told new.outside.host.told (λ x y. CallsBehind more taken y)) (calls-behind task ledger turns old mid new going taken wants.begun) wants.wants));
       caused = record { feed = takes.faults ∙ calm; disk = wants.disk ∙ going.disk; end = tt };
       logs = cut-logs task ledger turns old mid new taken going AtWantOfMemory wants.told [] true cuts;
       parks = wants.parks;

@@ -1,5 +1,5 @@
 -- What there is to tell of a serving run, and which accounts may be told.
-use Rattle.std.specs.Prelude.{◌≡◌, ◌⊎◌, ◌≢◌, ◌≤◌, Bool, true, false, List, [], ◌∷◌, ◌++◌, map, IfSome}
+use Rattle.std.specs.Prelude.{◌≡◌, ◌≢◌, ◌≤◌, Bool, true, false, List, [], ◌∷◌, ◌++◌, map, IfSome}
 use Rattle.fk_trace.specs.declared.change.Change.{Change}
 use Rattle.fk_trace.specs.declared.change.Change.TheVariants.{Done}
 use Rattle.fk_trace.specs.Ledger.{IsLedger, dones}
@@ -10,11 +10,11 @@ use Rattle.fk_run.specs.Turn.{TakenTurn, after_turns}
 use Rattle.fk_run.specs.Run.{Run, Ending, changes_of}
 use Rattle.fk_run.specs.Run.Ending.{AtFeedFault, AtDiskFault, AtWantOfMemory}
 use Rattle.fk_run.specs.Legal.{Legal}
-use Rattle.fk_run.specs.Ending.{KeepsLimits, WantsAtClose, WantsMemoryWithCause}
+use Rattle.fk_run.specs.Ending.{KeepsLimits}
 use Rattle.fk_run.specs.Planned.{planned}
 use Rattle.fk_log.specs.Log.{Opening, RefusalLine, MayTell}
 use Rattle.fk_log.specs.Log.Opening.{Opened, Unopened}
-use Rattle.fk_turn.specs.Rules.{BringsRightCode, rules_by}
+use Rattle.fk_turn.specs.Rules.{rules_by}
 use Rattle.fk_daemon.specs.declared.task.Task.{Task}
 
 pub record Account : Type 0 where
@@ -57,10 +57,6 @@ pub record IsServing (task : Task) (account : Account) : Type 0 where
   pub ledger : IsLedger account.run.ledger
   pub legal : Legal account.run
   pub limits : KeepsLimits task.limits account.run
-  pub memory : WantsMemoryWithCause account.run
-  -- no datagram without a right HMAC lets it be wanting
-  pub code : account.run.ending ≡ AtWantOfMemory → (front : List TakenTurn) (last : TakenTurn) → account.run.turns ≡ front ++ last ∷ []
-      → BringsRightCode task.policy last.turn ⊎ WantsAtClose account.run.rules (after_turns (entry account.run.ledger) front) last
   -- where memory is wanting, the settlements of that turn are made
   pub settled : account.run.ending ≡ AtWantOfMemory → (front : List TakenTurn) (last : TakenTurn) → account.run.turns ≡ front ++ last ∷ []
       → map Done (dones last.changes) ≡ settlements (after_turns (entry account.run.ledger) front).past last.items

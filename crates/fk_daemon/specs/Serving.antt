@@ -4,8 +4,8 @@ use Rattle.fk_base.specs.declared.status.Status.{Status}
 use Rattle.fk_base.specs.declared.status.Status.TheVariants as status
 use Rattle.fk_trace.specs.declared.change.Change.{Change}
 use Rattle.fk_trace.specs.Trace.{Item}
-use Rattle.fk_trace.specs.Ledger.{opens}
-use Rattle.fk_run.specs.Turn.{TakenTurn}
+use Rattle.fk_run.specs.Place.{entry}
+use Rattle.fk_run.specs.Turn.{TakenTurn, after_turns}
 use Rattle.fk_run.specs.Run.{Run, Ending, turns_of, trace_of}
 use Rattle.fk_run.specs.Run.Ending.{AtLimit, AtEnd, AtFeedFault, AtDiskFault, AtWantOfMemory}
 use Rattle.fk_host.specs.Count.{counted}
@@ -18,7 +18,9 @@ use Rattle.fk_child.specs.View.{View, SparesOthers, AddsItems}
 use Rattle.fk_journal.specs.Keeps.{IsOpening}
 use Rattle.fk_ledger.specs.Holds.{HoldsLedger, IsLedgerDamagedAt}
 use Rattle.fk_ledger.specs.Stretch.{IsLedgerOpening}
+use Rattle.fk_turn.specs.declared.policy.Policy.{Policy}
 use Rattle.fk_turn.specs.Serving.{calls_for}
+use Rattle.fk_turn.specs.Wanting.{WantsMemoryAt}
 use Rattle.fk_daemon.specs.declared.task.Task.{Task}
 use Rattle.fk_log.specs.Printing.{Prints}
 use Rattle.fk_daemon.specs.Outside.{Outside, Feeds}
@@ -51,20 +53,19 @@ pub record HasCauses (ending : Ending) (old new : Outside) : Type 0 where
   pub disk : new.host.faults ≡ (if is_whole ending then old.host.faults else counted old.host.faults)
   pub end : EndsFeed ending new.feed.has_ended
 
--- What a last turn asked of the host before memory was wanting in it: behind the Turn item one call for each further item and four for
--- each change, and one more that brought nothing, always where the turn made a record. That is the host's own start.
-pub record AsksHost (last : TakenTurn) (later : Told) : Type 0 where
+-- Behind the Turn item of this last turn the host was called once for each further item, four times for each change, and `more` times
+-- more.
+pub record CallsBehind (more : ℕ) (last : TakenTurn) (later : Told) : Type 0 where
   pub start : Item
   pub further : List Item
   pub items : last.items ≡ start ∷ further
-  pub calls : ((opens last.changes ≡ []) × (later.moments ≡ start.moments + calls_for further last.changes))
-      ⊎ (later.moments ≡ start.moments + calls_for further last.changes + 1)
+  pub calls : later.moments ≡ start.moments + calls_for further last.changes + more
 
--- A run that ended for want of memory: behind a record of its last turn memory was wanting nowhere but in the host's own start.
-abbrev pub AsksHostLast : Run → Option Told → Option Told → Type 0
-AsksHostLast run old new =
+-- A run that ended for want of memory, and where in its last turn it was wanting.
+abbrev pub WantsMemoryLast : Policy → Run → Option Told → Option Told → Type 0
+WantsMemoryLast policy run old new =
     run.ending ≡ AtWantOfMemory → (front : List TakenTurn) (last : TakenTurn) → run.turns ≡ front ++ last ∷ []
-    → IfTold old new (λ before later. AsksHost last later)
+    → WantsMemoryAt policy (after_turns (entry run.ledger) front) last (λ more. IfTold old new (λ before later. CallsBehind more last later))
 
 -- The run of the account was served on the host: over the ledger that it held, with the run's items as the trace's new end, and its
 -- changes on the disk as far as each moment says. The areas on which the ledger does not stand are left.
@@ -73,7 +74,6 @@ pub record RunsOn (account : Account) (old new : View) : Type 0 where
   pub faults : account.run.faults ≡ old.faults
   pub trace : IfTold old.told new.told (AddsItems (trace_of account.run))
   pub moments : IfTold old.told new.told (RunMoments account.run (tried_changes account) old.images new.images)
-  pub asked : AsksHostLast account.run old.told new.told
   pub others : SparesOthers old new
 
 -- A ledger was opened and served: this is one legal run over it, whose turns the feed gave, that was served on the host, and whose
@@ -83,6 +83,7 @@ pub record ServesRun (task : Task) (old new : Outside) (answer : Status) : Type 
   pub serving : IsServing task account
   pub turns : Feeds account.opening task.policy.conf.now.port (turns_of account.run) old.feed.given new.feed.given
   pub host : RunsOn account old.host new.host
+  pub memory : WantsMemoryLast task.policy account.run old.host.told new.host.told
   pub is_broken : Bool
   pub printed : Prints (log_text task.verbosity account.opening account.refusal account.run) is_broken old.sink new.sink
   pub answered : HasStatus account.run.ending is_broken answer

@@ -48,7 +48,7 @@ use Rattle.fk_daemon.specs.declared.session.Stop.TheVariants as stop
 use Rattle.fk_log.specs.Printing.{SinkView, Prints}
 use Rattle.fk_daemon.specs.Outside.{Outside, Feeds, outside_by}
 use Rattle.fk_daemon.specs.Account.{Account, IsServing, tried_changes}
-use Rattle.fk_daemon.specs.Serving.{HasStatus, AsksHostLast, HasCauses}
+use Rattle.fk_daemon.specs.Serving.{HasStatus, WantsMemoryLast, HasCauses}
 
 -- a session with its feed, its host and its output
 pub record Standing : Type 1 where
@@ -212,7 +212,7 @@ pub record Finishes (task : Task) (ledger : List Change) (how : Stop) (old new :
   pub serving : IsServing task account
   pub given : Feeds account.opening task.policy.conf.now.port (turns_of account.run) old.outside.feed.given new.outside.feed.given
   pub adds : AddsTurns account.run (tried_changes account) old.outside.host new.outside.host
-  pub asked : AsksHostLast account.run old.outside.host.told new.outside.host.told
+  pub memory : WantsMemoryLast task.policy account.run old.outside.host.told new.outside.host.told
   pub caused : HasCauses (ending_of how) old.outside new.outside
   pub logs : Logs (lines_before_end account.opening account.refusal account.run) (output_of old) (output_of new)
   pub parks : OwesItsLive new.session.daemon

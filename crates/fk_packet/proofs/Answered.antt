@@ -1,6 +1,6 @@
 -- What the calls below have answered, put together.
 use Rattle.std.proofs.Common.{◌≡◌, ◌≢◌, ◌↔◌, ◌⊎◌, ℕ, ◌+◌, ◌*◌, ◌/◌, ◌%◌, ◌-◌, ◌<◌, ◌≤◌, Bool, true, false, not, List, [], ◌∷◌, ◌++◌, length, take, drop, Option, Some, None, Result, Ok, Err, refl, sym, ap, subst, ◌∙◌, inl, inr, arith}
-use Rattle.std.specs.Prelude.{◌&&◌, ◌==◌, nat_eq, nat_le, IfErr, IfOk, IsTrue, MatchResult}
+use Rattle.std.specs.Prelude.{◌&&◌, ◌==◌, nat_eq, nat_le, IfErr, IfOk, IsOk, IsTrue, MatchResult}
 use Rattle.std.specs.List.{AllByRecursion, list_all, prefix_len, starts_with}
 use Rattle.std.specs.Option.{option_and_then}
 use Rattle.std.specs.Str.{bytes_eq}
@@ -332,7 +332,7 @@ opened_is keys datagram letters o right front is =
 pub record DatagramRefused (keys : Keys) (datagram : List ℕ) (why : PacketFault) (old new : ℕ) : Type 0 where
   pub answer : (opened_under keys datagram ≡ Err why) ⊎ ((why ≡ fault.NoMemory) × (0 < blocks_under keys datagram))
   pub steps : why ≢ fault.NoMemory → new ≡ old + blocks_under keys datagram
-  pub memory_steps : why ≡ fault.NoMemory → (new ≡ old) ⊎ (new ≡ old + blocks_under keys datagram)
+  pub memory_steps : why ≡ fault.NoMemory → (new ≡ old) ⊎ ((new ≡ old + blocks_under keys datagram) × IsOk (opened_under keys datagram))
 
 pub cipher_refused : (keys : Keys) (datagram key letters : List ℕ) (why : PacketFault) (old new : ℕ) → is_authentic keys datagram ≡ true → key ≡ keys.key
     → letters ≡ take (length datagram - text_len keys.kind) datagram → LettersRefused key (prefix ++ letters) why old new
@@ -367,6 +367,14 @@ no_memory_test text is =
 not_decoded : (text : List ℕ) (why : DecodeFault) → decode_fault text ≡ Some why → decoded text ≡ Err why
 unfolding decoded
 not_decoded text why is = rw is refl
+
+decoded_well : (text : List ℕ) → decode_fault text ≡ None → IsOk (decoded text)
+unfolding decoded
+decoded_well text none = rw none cc
+
+plain_well : (read : Result Fields DecodeFault) → IsOk read → IsOk (read_plain read)
+plain_well (Ok fields) is = is
+plain_well (Err why) is = absurd (let never : false ≡ true = is in cc)
 
 refused_plain : (why : DecodeFault) → (why ≡ decode.NoMemory → ⊥) → decode_refusal why ≡ fault.Plain why
 refused_plain (decode.Missing n) never = refl
@@ -405,7 +413,16 @@ plain_refused keys datagram key letters plain seen why old new right key_is fron
             | inr memory ↦ inr (ap decode_refusal memory.0, omega arith)
           ];
       steps = λ _. all;
-      memory_steps = λ _. inr all;
+      memory_steps = λ memory.
+          elim because [
+            | inl fails ↦
+                let never : why ≡ decode.NoMemory → ⊥ = λ e. no_memory_test seen (fails ∙ ap Some e) in
+                let other : fault.Plain why ≡ fault.NoMemory = sym (refused_plain why never) ∙ memory in
+                absurd cc
+            | inr none ↦
+                let reads : IsOk (decoded plain) = subst (λ (t : List ℕ). IsOk (decoded t)) seen_is (decoded_well seen none.1) in
+                inr (all, subst IsOk (sym opens_to) (plain_well (decoded plain) reads))
+          ];
     }
 
 pub plain_fields : (keys : Keys) (datagram key letters plain seen : List ℕ) (f : Fields) → is_authentic keys datagram ≡ true

@@ -1,4 +1,4 @@
-ghost use Rattle.std.specs.Prelude.{◌≡◌, ◌≢◌, ◌⊎◌, ◌+◌, ◌-◌, ◌<◌, ◌≤◌, ◌++◌, false, length, take, drop, Err, IfOk, IsSome, MatchResult, None, Ok, Some};
+ghost use Rattle.std.specs.Prelude.{◌≡◌, ◌≢◌, ◌⊎◌, ◌+◌, ◌-◌, ◌<◌, ◌≤◌, ◌++◌, false, length, take, drop, Err, IfOk, IsOk, IsSome, MatchResult, None, Ok, Some};
 ghost use Rattle.fk_base.specs.HashKind.{text_len};
 ghost use Rattle.fk_fields.specs.declared.fields.Fields.{Fields as PackedFields};
 ghost use Rattle.fk_packet.specs.Opens.{blocks_in, blocks_under, is_authentic, opened_under, plain_in, unpacked};
@@ -37,7 +37,7 @@ pub fn unpack<L: Ledger>(
     ensures steps { shape_fault datagram.now ≡ None → result ≢ Err PacketFault.NoMemory
         → steps.new ≡ steps.old + blocks_under keys.now datagram.now }
     ensures memory_steps { result ≡ Err PacketFault.NoMemory
-        → (steps.new ≡ steps.old) ⊎ (steps.new ≡ steps.old + blocks_under keys.now datagram.now) }
+        → (steps.new ≡ steps.old) ⊎ ((steps.new ≡ steps.old + blocks_under keys.now datagram.now) × IsOk (unpacked keys.now datagram.now)) }
 {
     shape(datagram)?;
     open_under(alloc, datagram, keys, steps)
@@ -59,7 +59,7 @@ pub fn open_under<L: Ledger>(
     ensures mac_steps { is_authentic keys.now datagram.now ≡ false → steps.new ≡ steps.old }
     ensures steps { result ≢ Err PacketFault.NoMemory → steps.new ≡ steps.old + blocks_under keys.now datagram.now }
     ensures memory_steps { result ≡ Err PacketFault.NoMemory
-        → (steps.new ≡ steps.old) ⊎ (steps.new ≡ steps.old + blocks_under keys.now datagram.now) }
+        → (steps.new ≡ steps.old) ⊎ ((steps.new ≡ steps.old + blocks_under keys.now datagram.now) × IsOk (opened_under keys.now datagram.now)) }
 {
     let (letters, mac) = split_mac(datagram, keys.kind);
     if !verify(keys.kind, keys.mac_key.as_slice(), PREFIX, letters, mac) {

@@ -61,10 +61,3 @@ pub record WantsAtClose (rules : Rules) (place : Place) (taken : TakenTurn) : Ty
   pub item : OpenRecord
   pub owed : IsDueIdle (after_turn place taken) taken.turn.moment item
   pub untried : close_attempted taken.items item.id ≡ false
-
--- A serving run that took a turn and ends for want of memory does so in a turn of one of these two kinds.
-abbrev pub WantsMemoryWithCause : Run → Type 0
-WantsMemoryWithCause run =
-    run.ending ≡ AtWantOfMemory
-    → (front : List TakenTurn) (last : TakenTurn) → run.turns ≡ front ++ last ∷ []
-    → WantsAtDatagram run.rules (after_turns (entry run.ledger) front) last ⊎ WantsAtClose run.rules (after_turns (entry run.ledger) front) last

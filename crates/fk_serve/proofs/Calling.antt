@@ -15,8 +15,8 @@ use Rattle.fk_run.specs.History.{Visit, IsVisit, IsHistory, ledger_left, left_in
 use Rattle.fk_run.proofs.Histories.{history-next, left-last}
 use Rattle.fk_host.specs.declared.disk.Disk.{Ghosts as DiskMeaning}
 use Rattle.fk_host.specs.Disk.{Areas, Told, IfTold, LeavesAreas}
-use Rattle.fk_conf.specs.declared.command.Command.{Command}
-use Rattle.fk_conf.specs.declared.command.Command.TheVariants as command
+use Rattle.fk_words.specs.declared.command.Command.{Command}
+use Rattle.fk_words.specs.declared.command.Command.TheVariants as command
 use Rattle.fk_log.specs.declared.verbosity.Verbosity.{Verbosity}
 use Rattle.fk_journal.specs.declared.fault.JournalErr.{JournalErr}
 use Rattle.fk_journal.specs.declared.fault.JournalErr.TheVariants as journal

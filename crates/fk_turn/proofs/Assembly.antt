@@ -14,7 +14,7 @@ use Rattle.fk_trace.specs.Decision.{FeedTurn, Answer, answer, recorded_by}
 use Rattle.fk_trace.specs.Settled.{settlements}
 use Rattle.fk_trace.specs.Attempts.{IsPollOf}
 use Rattle.fk_trace.specs.Idle.{ends_after, is_idle}
-use Rattle.fk_trace.proofs.Ledgers.{seen-append_none}
+use Rattle.fk_trace.proofs.Ledgers.{opens-append, seen-append_none}
 use Rattle.fk_trace.proofs.Settled.{past_after-append}
 use Rattle.fk_trace.proofs.Lists.{Contains-head, Contains-tail, Contains-cases, Contains-filter, Contains-unmap}
 use Rattle.fk_run.specs.Left.{is_attempt}
@@ -39,6 +39,7 @@ use Rattle.fk_turn.specs.declared.turn_err.TurnErr.{TurnErr}
 use Rattle.fk_turn.specs.declared.turn_err.TurnErr.TheVariants.{Disk, NoMemory}
 use Rattle.fk_turn.specs.Daemon.{Scene, DaemonStands, AtRest}
 use Rattle.fk_turn.specs.Rules.{rules_by}
+use Rattle.fk_turn.specs.Wanting.{IsWorthMemory}
 use Rattle.fk_turn.specs.Serving.{calls_for, OwesItsLive, ServesWhole, ServesTurn, FailsAtDisk, WantsMemory}
 use Rattle.fk_turn.specs.Parts.{beginning, BeginsTurn, settlement, SettlesWhole, FailsToSettle, answering, Answers, AnswersWhole, FailsToRecord, WantsToAnswer, closing_part, AttemptsCloses, Closes, Part, joined, reached, ServesPart}
 use Rattle.fk_turn.proofs.Items.{Tries, Polls, polls-no_turns, polls-close_none, opened-tries, opened-close_none, polled-polls, all-joined, tried-after, tried-none, tries-no_turns, ends_after-append, polls-others, tries-attempts}
@@ -282,32 +283,38 @@ module _ (policy : Policy) (place : Place) (turn : FeedTurn) (s0 s1 : Scene) (b 
         let none : dones w.changes ≡ [] = elim w.front [ inl e ↦ ap dones e.0 | inr e ↦ ap dones e.0 ∙ dones-recorded answer_given ] in
         let total : length made ≡ length (map Done ids) + length w.changes = length-append (map Done ids) w.changes in
         let lines : List Line = input_lines turn.moment turn.input Untold w.changes answer_given in
-        record {
-          taken = record { turn = turn; items = b.start ∷ b.polled; changes = made };
-          of_turn = refl;
-          cut = cut-before (rules_by policy) place turn b.start b.polled ids begins goes made front.0 front.1;
-          cause = inl (record {
+        let worth : IsWorthMemory policy place (record { turn = turn; items = b.start ∷ b.polled; changes = made }) = record {
+          datagram = record {
             source = w.source;
             datagram = w.datagram;
             brought = w.brought;
             formed = w.formed;
             fresh = λ m. w.fresh (subst (λ (ds : List (List ℕ)). Contains ds ((rules_by policy).digest w.datagram)) (sym (seen-append_none place.ledger (map Done ids) (opens-settled ids))) m);
-          });
-          code = inl (w.source, w.datagram, w.brought, w.code);
+          };
+          code = (w.source, w.datagram, w.brought, w.code);
+        } in
+        record {
+          taken = record { turn = turn; items = b.start ∷ b.polled; changes = made };
+          of_turn = refl;
+          cut = cut-before (rules_by policy) place turn b.start b.polled ids begins goes made front.0 front.1;
+          wants = elim w.front [
+            | inl e ↦ inl (record {
+              cause = worth;
+              unrecorded = ap (λ (cs : List Change). opens (map Done ids ++ cs)) e.0 ∙ ap opens (append-nil (map Done ids)) ∙ opens-settled ids;
+              calls = calls-same (calls_for (b.start ∷ b.polled) (map Done ids) + 0) (calls_for (b.start ∷ b.polled) made + 0) s0.host s3.host (let few = ap length e.0 in omega (arith, total, few))
+                  (calls-then (calls_for (b.start ∷ b.polled) (map Done ids)) 0 s0.host s2.host s3.host calls2 e.1);
+            })
+            | inr e ↦ inr (record {
+              cause = inl (worth, λ none. e.1 (sym (opens-append (map Done ids) w.changes ∙ ap (λ (xs : List OpenRecord). xs ++ opens w.changes) (opens-settled ids)) ∙ none));
+              calls = calls-same (calls_for (b.start ∷ b.polled) (map Done ids) + (calls_for [] w.changes + 1)) (calls_for (b.start ∷ b.polled) made + 1) s0.host s3.host (omega (arith, total))
+                  (calls-then (calls_for (b.start ∷ b.polled) (map Done ids)) (calls_for [] w.changes + 1) s0.host s2.host s3.host calls2 e.2);
+            })
+          ];
           settled = ap (map Done) (dones-part ids w.changes none)
               ∙ sym (ap (λ (xs : List Item). settlements place.past (b.start ∷ xs)) (sym (append-nil b.polled)) ∙ settles-polled (rules_by policy) place turn b.start b.polled ids begins [] tt);
           begun = elim w.front [
             | inl e ↦ first-then b.start 0 s0.host s2.host s3.host first2 e.1
-            | inr e ↦ first-then b.start (calls_for [] w.changes + 1) s0.host s2.host s3.host first2 e.1
-          ];
-          asked = elim w.front [
-            | inl e ↦ inl (
-              ap (λ (cs : List Change). opens (map Done ids ++ cs)) e.0 ∙ ap opens (append-nil (map Done ids)) ∙ opens-settled ids,
-              calls-same (calls_for (b.start ∷ b.polled) (map Done ids) + 0) (calls_for (b.start ∷ b.polled) made) s0.host s3.host (let few = ap length e.0 in omega (arith, total, few))
-                  (calls-then (calls_for (b.start ∷ b.polled) (map Done ids)) 0 s0.host s2.host s3.host calls2 e.1),
-            )
-            | inr e ↦ inr (calls-same (calls_for (b.start ∷ b.polled) (map Done ids) + (calls_for [] w.changes + 1)) (calls_for (b.start ∷ b.polled) made + 1) s0.host s3.host (omega (arith, total))
-                (calls-then (calls_for (b.start ∷ b.polled) (map Done ids)) (calls_for [] w.changes + 1) s0.host s2.host s3.host calls2 e.1))
+            | inr e ↦ first-then b.start (calls_for [] w.changes + 1) s0.host s2.host s3.host first2 e.2
           ];
           numbered = begun-stands.stands.tied.stands.orderly.numbered;
           adds = subst (λ (xs : List Item). Adds xs place.ledger made true s0.host s3.host) (append-nil (b.start ∷ b.polled))
@@ -454,14 +461,15 @@ module _ (policy : Policy) (place : Place) (turn : FeedTurn) (s0 s1 : Scene) (b 
               of_turn = refl;
               cut = cut-among (rules_by policy) place turn b.start b.polled ids begins a.opened done.closed rest.0 a.attempts (turn-tries turn.moment behind_closes rest.0 rest.1)
                   (each-due (done.closed ++ rest.0) (next-joined turn.moment close_place done.closed rest.0 done.attempts rest.1));
-              cause = inr (close-wanted next.0 next.1);
-              code = inr (close-wanted next.0 next.1);
+              wants = inr (record {
+                cause = inr (close-wanted next.0 next.1);
+                calls = calls-same (calls_for taken.items taken.changes + further) (calls_for taken.items taken.changes + 1) s0.host s4.host (omega (arith, one)) calls4;
+              });
               settled = ap (map Done) (dones-part ids (recorded_by answer_given) (dones-recorded answer_given))
                   ∙ sym (ap (λ (xs : List Item). settlements place.past (b.start ∷ xs)) (append_assoc b.polled a.opened done.closed)
                   ∙ settles-polled (rules_by policy) place turn b.start b.polled ids begins (a.opened ++ done.closed) (all-joined Tries a.opened done.closed tries closed-tries));
               begun = first-then b.start (length done.closed + further) s0.host s3.host s4.host
                   (first-then b.start (calls_for a.opened (recorded_by answer_given)) s0.host s2.host s3.host first2 a.calls) done.calls;
-              asked = inr (calls-same (calls_for taken.items taken.changes + further) (calls_for taken.items taken.changes + 1) s0.host s4.host (omega (arith, one)) calls4);
               numbered = serves4.stands.stands.tied.stands.orderly.numbered;
               adds = serves4.adds;
               disk = serves4.disk;

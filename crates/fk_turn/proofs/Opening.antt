@@ -185,7 +185,7 @@ module _ (policy : Policy) (place : Place) (moment : ℕ) (source : Ip4) (datagr
           fresh = fresh-unseen (rules.digest datagram) place.ledger granted.unseen;
           code = inr (permit, granted.admitted);
           changes = OpenChange item ∷ [];
-          front = inr (sym (ap recorded_by opens), calls-same (4 + 1) (calls_for [] (OpenChange item ∷ []) + 1) h0 h2 refl (calls-then 4 1 h0 h1 h2 four goes.calls));
+          front = inr (sym (ap recorded_by opens), (λ e. cc), calls-same (4 + 1) (calls_for [] (OpenChange item ∷ []) + 1) h0 h2 refl (calls-then 4 1 h0 h1 h2 four goes.calls));
           adds = adds-append [] [] place.ledger (OpenChange item ∷ []) [] (record { attempts = inl refl; others = inr tt }) true h0 h1 h2 adds1 faults goes.adds;
           disk = goes.disk ∙ faults;
           logs = subst (λ (a : Answer). Logs (input_lines moment turn.input Untold (OpenChange item ∷ []) a) o0 o1) (sym opens) grant-logs;

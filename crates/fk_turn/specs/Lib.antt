@@ -1,4 +1,5 @@
 pub mod Rules
 pub mod Daemon
+pub mod Wanting
 pub mod Serving
 pub mod Parts

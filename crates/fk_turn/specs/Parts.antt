@@ -1,6 +1,6 @@
 -- What each of the four parts of a turn does: its beginning with the polls, the settlements, the answer to what it brought, and the
 -- closes. Only private contracts cite it.
-use Rattle.std.specs.Prelude.{◌≡◌, ◌⊎◌, ℕ, ◌+◌, ◌≤◌, length, true, false, List, [], ◌∷◌, ◌++◌, map, None, Result, Ok, Err}
+use Rattle.std.specs.Prelude.{◌≡◌, ◌≢◌, ◌⊎◌, ℕ, ◌+◌, ◌≤◌, length, true, false, List, [], ◌∷◌, ◌++◌, map, None, Result, Ok, Err}
 use Rattle.std.specs.List.{Contains}
 use Rattle.fk_base.specs.CommandWords.{AreCommandWords}
 use Rattle.fk_base.specs.declared.address.Ip4.{Ip4}
@@ -15,7 +15,7 @@ use Rattle.fk_trace.specs.declared.change.Change.TheVariants.{Open as OpenChange
 use Rattle.fk_trace.specs.declared.refusal.LogWhy.{LogWhy}
 use Rattle.fk_trace.specs.Trace.{Item}
 use Rattle.fk_trace.specs.Trace.Event.{Turn}
-use Rattle.fk_trace.specs.Ledger.{seen, is_seen, after}
+use Rattle.fk_trace.specs.Ledger.{opens, seen, is_seen, after}
 use Rattle.fk_trace.specs.Decision.{FeedTurn, Permit, Answer, answer, record_of, recorded_by}
 use Rattle.fk_trace.specs.Decision.Input.{Datagram}
 use Rattle.fk_trace.specs.Decision.Answer.{Refuses, Opens}
@@ -159,7 +159,7 @@ pub record WantsToAnswer (policy : Policy) (place : Place) (turn : FeedTurn) (ol
   pub code : HasRightCode policy turn.moment source datagram
   pub changes : List Change
   pub front : ((changes ≡ []) × MakesCalls 0 old.host new.host)
-      ⊎ ((changes ≡ recorded_by (answer_at policy place turn)) × MakesCalls (calls_for [] changes + 1) old.host new.host)
+      ⊎ ((changes ≡ recorded_by (answer_at policy place turn)) × (opens changes ≢ []) × MakesCalls (calls_for [] changes + 1) old.host new.host)
   pub adds : Adds [] place.ledger changes true old.host new.host
   pub disk : new.host.faults ≡ old.host.faults
   pub logs : Logs (input_lines turn.moment turn.input Untold changes (answer_at policy place turn)) old.output new.output

@@ -1,17 +1,16 @@
 -- What serving a turn does, whole or in part.
-use Rattle.std.specs.Prelude.{◌≡◌, ◌⊎◌, ◌<◌, ℕ, ◌+◌, ◌*◌, length, map, true, false, List, [], ◌∷◌, ◌++◌, Result, Ok, Err}
+use Rattle.std.specs.Prelude.{◌≡◌, ◌<◌, ℕ, ◌+◌, ◌*◌, length, map, true, false, List, [], ◌∷◌, ◌++◌, Result, Ok, Err}
 use Rattle.std.specs.List.{AllPairs}
 use Rattle.fk_trace.specs.declared.change.Change.{Change}
 use Rattle.fk_trace.specs.Trace.{Item, children, past_after}
 use Rattle.fk_trace.specs.declared.change.Change.TheVariants.{Done}
-use Rattle.fk_trace.specs.Ledger.{after, opens, dones}
+use Rattle.fk_trace.specs.Ledger.{after, dones}
 use Rattle.fk_trace.specs.Settled.{settlements}
 use Rattle.fk_trace.specs.Decision.{FeedTurn}
 use Rattle.fk_run.specs.Place.{Place}
 use Rattle.fk_run.specs.Turn.{TakenTurn, WholeTurn, CutTurn, after_turn}
 use Rattle.fk_run.specs.Planned.{planned_turn}
 use Rattle.fk_run.specs.Run.Ending.{AtWantOfMemory}
-use Rattle.fk_run.specs.Ending.{WantsAtDatagram, WantsAtClose}
 use Rattle.fk_host.specs.Count.{counted}
 use Rattle.fk_host.specs.Disk.{IfTold}
 use Rattle.fk_log.specs.Line.{Line}
@@ -26,7 +25,8 @@ use Rattle.fk_turn.specs.declared.policy.Policy.{Policy}
 use Rattle.fk_turn.specs.declared.turn_err.TurnErr.{TurnErr}
 use Rattle.fk_turn.specs.declared.turn_err.TurnErr.TheVariants.{Disk, NoMemory}
 use Rattle.fk_turn.specs.Daemon.{DaemonState, Scene, DaemonStands, AtRest}
-use Rattle.fk_turn.specs.Rules.{BringsRightCode, rules_by, turn_of}
+use Rattle.fk_turn.specs.Rules.{rules_by, turn_of}
+use Rattle.fk_turn.specs.Wanting.{WantsMemoryAt}
 
 -- how many calls of the host bring these items and make these changes: one for each item, and four for each change
 abbrev pub calls_for : List Item → List Change → ℕ
@@ -72,21 +72,16 @@ pub record FailsAtDisk (policy : Policy) (place : Place) (turn : FeedTurn) (old 
   pub book : new.daemon.book.changes ≡ after place.ledger taken.changes
   pub parks : OwesItsLive new.daemon
 
--- Memory was wanting in the turn, for one of two causes, and the turn is cut there: the trace, the ledger and the log have what was
--- served before, all settlements among it. Once a record was made, it was in the host's own start, which was called and brought
--- nothing.
+-- Memory was wanting in the turn, and the turn is cut there: the trace, the ledger and the log have what was served before, all
+-- settlements among it.
 pub record WantsMemory (policy : Policy) (place : Place) (turn : FeedTurn) (old new : Scene) : Type 0 where
   pub taken : TakenTurn
   pub of_turn : taken.turn ≡ turn
   pub cut : CutTurn (rules_by policy) place taken
-  pub cause : WantsAtDatagram (rules_by policy) place taken ⊎ WantsAtClose (rules_by policy) place taken
-  -- no datagram without a right HMAC lets it be wanting
-  pub code : BringsRightCode policy taken.turn ⊎ WantsAtClose (rules_by policy) place taken
+  pub wants : WantsMemoryAt policy place taken (λ more. MakesCalls (calls_for taken.items taken.changes + more) old.host new.host)
   pub settled : map Done (dones taken.changes) ≡ settlements place.past taken.items
   -- the turn began with the next call of the host
   pub begun : IfTold old.host.told new.host.told (λ before later. BeginsAt (before.moments + 1) taken.items)
-  pub asked : ((opens taken.changes ≡ []) × MakesCalls (calls_for taken.items taken.changes) old.host new.host)
-      ⊎ MakesCalls (calls_for taken.items taken.changes + 1) old.host new.host
   -- the host still numbers its children by rising numbers
   pub numbered : AllPairs (λ a b. a.number < b.number) (children (past_after place.past taken.items))
   pub adds : Adds taken.items place.ledger taken.changes true old.host new.host
