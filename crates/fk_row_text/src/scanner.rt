@@ -1,0 +1,136 @@
+ghost use Rattle.std.specs.Prelude.{◌≤◌, IfOk};
+
+use crate::RowFault;
+
+/// What is left of a row while it is read.
+#[derive(Drop)]
+pub(crate) struct Scanner<'a> {
+    rest: &'a [u8],
+}
+
+impl<'a> Scanner<'a> {
+    pub(crate) fn new(row: &'a [u8]) -> Self {
+        Scanner { rest: row }
+    }
+
+    /// How many bytes are left.
+    pub(crate) fn len(&self) -> usize {
+        self.rest.len()
+    }
+
+    /// Takes the next byte.
+    pub(crate) fn take(&mut self) -> Option<u8> {
+        let (first, rest) = self.rest.split_first()?;
+        self.rest = rest;
+        Some(*first)
+    }
+
+    /// Whether these bytes come next.
+    pub(crate) fn begins(&self, bytes: &[u8]) -> bool {
+        self.rest.starts_with(bytes)
+    }
+
+    /// Takes these bytes where they come next.
+    pub(crate) fn takes(&mut self, bytes: &[u8]) -> bool {
+        match self.rest.strip_prefix(bytes) {
+            Some(rest) => {
+                self.rest = rest;
+                true
+            }
+            None => false,
+        }
+    }
+
+    /// Takes this sign where it comes next and stands alone.
+    pub(crate) fn takes_sign(&mut self, sign: u8) -> bool {
+        match self.rest {
+            [first, rest @ ..] if *first == sign && begins_with_gap(rest) => {
+                self.rest = rest;
+                true
+            }
+            _ => false,
+        }
+    }
+
+    /// Takes the spaces and line feeds that come next.
+    pub(crate) fn skip_blanks(&mut self) {
+        let _blanks = self.take_up_to(self.rest.iter().position(|byte| !is_blank(*byte)));
+    }
+
+    /// Whether the next byte is a blank or nothing is left.
+    pub(crate) fn is_at_gap(&self) -> bool {
+        begins_with_gap(self.rest)
+    }
+
+    /// Takes what stands before the next blank.
+    pub(crate) fn take_word(&mut self) -> &'a [u8] {
+        self.take_up_to(self.rest.iter().position(|byte| is_blank(*byte)))
+    }
+
+    /// Takes what stands before the end of the line.
+    pub(crate) fn take_line(&mut self) -> &'a [u8] {
+        self.take_up_to(self.rest.iter().position(|byte| *byte == b'\n'))
+    }
+
+    /// Takes the letters, digits and low lines that come next.
+    pub(crate) fn take_name(&mut self) -> &'a [u8] {
+        self.take_up_to(self.rest.iter().position(|byte| !is_name_byte(*byte)))
+    }
+
+    /// Takes the digits that come next.
+    pub(crate) fn take_number(&mut self) -> Result<usize, RowFault> {
+        let digits = self.take_up_to(self.rest.iter().position(|byte| !byte.is_ascii_digit()));
+        number_of(digits, usize::MAX as u64).map(|number| number as usize)
+    }
+
+    /// Takes the bytes before this place, or all where there is no place.
+    fn take_up_to(&mut self, place: Option<usize>) -> &'a [u8] {
+        let place = place.unwrap_or(self.rest.len()).min(self.rest.len());
+        let taken = &self.rest[..place];
+        self.rest = &self.rest[place..];
+        taken
+    }
+}
+
+/// Whether a blank comes first or there is nothing.
+fn begins_with_gap(text: &[u8]) -> bool {
+    match text.first() {
+        Some(byte) => is_blank(*byte),
+        None => true,
+    }
+}
+
+fn is_blank(byte: u8) -> bool {
+    byte == b' ' || byte == b'\n'
+}
+
+fn is_name_byte(byte: u8) -> bool {
+    byte.is_ascii_alphanumeric() || byte == b'_'
+}
+
+/// The number whose digits these are, up to the greatest that serves.
+pub(crate) fn number_of(digits: &[u8], most: u64) -> Result<u64, RowFault>
+    ensures { IfOk result (λ number. number ≤ most) }
+{
+    if digits.is_empty() {
+        return Err(RowFault::NoNumber);
+    }
+    let mut number = 0u64;
+    for digit in digits {
+        if !digit.is_ascii_digit() {
+            return Err(RowFault::NoNumber);
+        }
+        let Some(next) = number
+            .checked_mul(10)
+            .and_then(|n| n.checked_add(u64::from(*digit - b'0')))
+        else {
+            return Err(RowFault::NoNumber);
+        };
+        number = next;
+    }
+    if number <= most {
+        Ok(number)
+    } else {
+        Err(RowFault::NoNumber)
+    }
+}

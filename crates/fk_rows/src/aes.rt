@@ -1,0 +1,43 @@
+//! The calls of fk_aes: AES-256 of one block.
+ghost use Rattle.std.specs.Prelude.{◌≡◌, ◌<◌};
+
+use crate::reading::bytes;
+use fk_aes::Key256;
+use fk_base::Steps;
+use fk_row_text::{Answer, Arguments, RowFault};
+use std::marker::Brand;
+use std::sync::ledger::{Blank, Ledger};
+
+/// Makes the call of this name, where it is one of these.
+pub(crate) fn call(
+    name: &[u8],
+    arguments: &mut Arguments<'_>,
+    answer: &mut Answer,
+) -> Result<bool, RowFault> {
+    match name {
+        b"encrypt" => {
+            let key = Key256::new(bytes(arguments)?);
+            let mut block = bytes(arguments)?;
+            key.encrypt(&mut block);
+            answer.text(&block)?;
+        }
+        b"decrypt" => {
+            let key = Key256::new(bytes(arguments)?);
+            let block = bytes(arguments)?;
+            answer.text(&decrypted::<Brand>(&key, block, Blank::new(1)))?;
+        }
+        _ => return Ok(false),
+    }
+    Ok(true)
+}
+
+fn decrypted<L: Ledger>(key: &Key256, sealed: [u8; 16], blank: Blank) -> [u8; 16]
+    requires name { blank.name ≡ L.name }
+    requires parts { blank.parts ≡ L.parts }
+    requires some { 0 < L.parts }
+{
+    let mut steps: Steps<L> = Steps::new(blank);
+    let mut block = sealed;
+    key.decrypt(&mut block, &mut steps);
+    block
+}

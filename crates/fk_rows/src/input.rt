@@ -1,0 +1,52 @@
+//! The call of fk_input: the lines of an input.
+use fk_host::MemSource;
+use fk_input::{LineReader, NextLine, reading_exists, reading_is_unique};
+use fk_row_text::{Answer, Arguments, RowFault};
+use std::alloc::Global;
+
+/// Makes the call of this name, where it is one of these.
+pub(crate) fn call(
+    alloc: Global,
+    name: &[u8],
+    arguments: &mut Arguments<'_>,
+    answer: &mut Answer,
+) -> Result<bool, RowFault> {
+    match name {
+        b"next_lines" => call_next_lines(alloc, arguments, answer)?,
+        _ => return Ok(false),
+    }
+    Ok(true)
+}
+
+/// `next_lines TEXT MOST none` or `.. MOST N`: the lines of an input that gives so many bytes at most in one read, and fails at the
+/// Nth; and what comes behind them.
+fn call_next_lines(
+    alloc: Global,
+    arguments: &mut Arguments<'_>,
+    answer: &mut Answer,
+) -> Result<(), RowFault> {
+    // Two laws about any type, called once for one.
+    reading_exists::<u8>();
+    reading_is_unique::<u8>();
+    let text = arguments.text()?;
+    let most = arguments.number(usize::MAX as u64)? as usize;
+    let fail_at = if arguments.takes(b"none") {
+        None
+    } else {
+        Some(arguments.number(u64::MAX)?)
+    };
+    if most == 0 {
+        return Err(RowFault::Barred);
+    }
+    let mut source = MemSource::in_pieces(alloc, text, most, fail_at)?;
+    let mut reader = LineReader::new();
+    for _ in 0..=text.len() {
+        let next = reader.next(&mut source);
+        if next != NextLine::Line {
+            answer.name(&next)?;
+            break;
+        }
+        answer.text(reader.line())?;
+    }
+    Ok(())
+}
