@@ -48,8 +48,9 @@ demo: ## shows the sample trial, and a daemon on the loopback with one packet
 	[ -n "$$built" ] || echo "make demo: no proved program is built" >&2; \
 	$(MAKE) -s $(UNPROVED) && echo "make demo: with an UNPROVED build" >&2 && PROGRAMS_FOLDER=$(CURDIR)/bin/unproved examples/demo
 
-test: $(UNPROVED) ## runs every crate's tests and every script of tests/ from unproved builds, and proves nothing
+test: $(UNPROVED) bin/unproved/fk_sessions ## runs every crate's tests, the sessions and every script of tests/ from unproved builds, and proves nothing
 	tests/lib/try-crates
+	cd crates/fk_sessions/data && $(CURDIR)/bin/unproved/fk_sessions $$(cat ../args)
 	PROGRAMS_FOLDER=$(CURDIR)/bin/unproved tests/lib/scripts
 
 check: ## runs the gate: proofs, tests, planted bugs, programs and the scripts of tests/

@@ -26,3 +26,4 @@ pub use laws::{
 };
 pub use ledger::Ledger;
 pub use owed::Owed;
+pub use reading::are_command_words;

@@ -186,7 +186,7 @@ fn u16_at(bytes: &[u8]) -> Option<(u16, &[u8])>
 }
 
 /// Whether a record may keep these words.
-pub(crate) fn are_command_words(words: &Words) -> bool
+pub fn are_command_words(words: &Words) -> bool
     ensures { IsTrue result ↔ AreCommandWords words.now }
 {
     if words.count() < 1 || words.count() > 32 {

@@ -1,0 +1,5 @@
+-- The kinds of entries that a journal has.
+use Rattle.std.specs.Prelude.{◌≡◌, ◌⊎◌, ℕ}
+
+abbrev pub IsKind : ℕ → Type 0
+IsKind kind = (kind ≡ 1) ⊎ (kind ≡ 2)

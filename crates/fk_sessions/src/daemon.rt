@@ -1,0 +1,77 @@
+//! Runs of `fwknopd`.
+use crate::answer::Answer;
+use crate::areas::{Areas, read_from};
+use crate::closed::ClosedFeed;
+use crate::fault::Fault;
+use crate::fields::Fields;
+use crate::memory::{MemFeed, MemFiles, MemHost, MemSink};
+use crate::setup::Setup;
+use crate::stage::Stage;
+use fk_base::{NoMemory, Status, Words};
+use fk_serve::fwknopd_run;
+use std::alloc::Global;
+
+/// What a run of the daemon has left.
+#[derive(Drop)]
+pub struct Ran {
+    pub status: Status,
+    pub host: MemHost,
+    pub out: MemSink,
+    pub port: Option<u16>,
+}
+
+/// Runs `fwknopd` over what is set up and its first turns, so many of them.
+pub fn run_over(
+    alloc: Global,
+    words: &Words,
+    files: &mut MemFiles,
+    setup: &Setup,
+    areas: &Areas,
+    turns: usize,
+) -> Result<Ran, NoMemory> {
+    let mut feed = setup.feed(turns)?;
+    let mut host = setup.host(areas)?;
+    let mut input = setup.source()?;
+    let mut out = setup.sink();
+    let status = if setup.is_closed {
+        let mut closed = ClosedFeed::new();
+        fwknopd_run(
+            alloc,
+            words,
+            files,
+            &mut closed,
+            &mut host,
+            &mut input,
+            &mut out,
+        )
+    } else {
+        fwknopd_run(
+            alloc, words, files, &mut feed, &mut host, &mut input, &mut out,
+        )
+    };
+    Ok(Ran {
+        status,
+        host,
+        out,
+        port: feed.port(),
+    })
+}
+
+/// Runs `fwknopd` over what the session has. Its areas are then what the run has left.
+pub fn run_daemon(stage: &mut Stage, fields: &mut Fields<'_>) -> Result<Answer, Fault> {
+    let words = stage.names.words(fields.all_or_none())?;
+    let setup = stage.take_setup();
+    let ran = run_over(
+        stage.alloc,
+        &words,
+        &mut stage.files,
+        &setup,
+        &stage.areas,
+        usize::MAX,
+    )?;
+    stage.areas = read_from(&ran.host)?;
+    let answer = Answer::of_run(stage.alloc, ran.out.written(), ran.status)?;
+    stage.host = Some(ran.host);
+    stage.port = ran.port;
+    Ok(answer)
+}

@@ -1,0 +1,43 @@
+//! The sessions of a file, one after the other.
+use crate::line::{Line, count_below, lines_of};
+use crate::report::Report;
+use crate::stage::Stage;
+use fk_base::NoMemory;
+use std::alloc::Global;
+
+/// A file, by its name.
+#[derive(Clone, Copy)]
+pub struct File<'a> {
+    pub name: &'a str,
+    pub text: &'a str,
+}
+
+/// Plays the sessions of a file. Each begins with the lines of the shared file and those before the file's first session.
+pub fn play_file(alloc: Global, shared: File<'_>, file: File<'_>) -> Result<Report, NoMemory> {
+    let mut report = Report::new(alloc);
+    let shared = lines_of(alloc, shared.name, shared.text)?;
+    let lines = lines_of(alloc, file.name, file.text)?;
+    let mut parts = lines.split(|line| line.begins_session());
+    let first = parts.next().unwrap_or(&[]);
+    let mut sessions = 0u64;
+    for own in parts {
+        let mut stage = Stage::new(alloc);
+        play_lines(&mut stage, &shared, &mut report)?;
+        play_lines(&mut stage, first, &mut report)?;
+        play_lines(&mut stage, own, &mut report)?;
+        sessions = sessions.saturating_add(1);
+    }
+    report.end(file.name, sessions)?;
+    Ok(report)
+}
+
+/// Carries out each line, together with those that belong to it.
+fn play_lines(stage: &mut Stage, lines: &[Line<'_>], report: &mut Report) -> Result<(), NoMemory> {
+    let mut rest = lines;
+    while let Some((line, behind)) = rest.split_first() {
+        let (below, next) = behind.split_at(count_below(behind));
+        stage.play(line, below, report)?;
+        rest = next;
+    }
+    Ok(())
+}
