@@ -19,8 +19,6 @@ mod sources;
 mod stanza;
 mod stanza_lacks;
 mod stanza_of;
-#[cfg(test)]
-mod tests;
 
 pub use access::{Access, STANZAS_LIMIT};
 pub use access_err::{AccessErr, AccessWhat};

@@ -16,8 +16,6 @@ mod judging;
 mod laws;
 mod ports;
 mod refusal;
-#[cfg(test)]
-mod tests;
 
 pub use admitting::admit;
 pub use laws::the_first_that_grants_is_taken;

@@ -14,8 +14,6 @@ mod rounds;
 mod state;
 mod substitution;
 mod tables;
-#[cfg(test)]
-mod tests;
 
 pub use key::Key256;
 pub use laws::{cipher_undoes_decipher, decipher_undoes_cipher};

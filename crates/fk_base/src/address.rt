@@ -70,24 +70,3 @@ fn byte_before_dot(text: &[u8], from: usize) -> Result<(u8, usize), ShapeFault>
         None => Err(ShapeFault(from)),
     }
 }
-
-#[cfg(test)]
-mod tests {
-    use crate::{Bytes, Ip4, ShapeFault, put_ip, read_ip};
-    use std::test::Fail;
-
-    #[test]
-    fn addresses_are_read_and_written(rt: HostRuntime) -> Result<(), Fail> {
-        let mut out = Bytes::copy(rt.alloc(), b"from ")?;
-        put_ip(Ip4(0x0a00_0007), &mut out)?;
-        assert_eq!(rt; out.as_slice(), b"from 10.0.0.7".as_slice());
-        assert_eq!(rt; read_ip(b"10.0.0.7"), Ok(Ip4(0x0a00_0007)));
-        assert_eq!(rt; read_ip(b"255.255.255.255"), Ok(Ip4(u32::MAX)));
-        assert_eq!(rt; read_ip(b""), Err(ShapeFault(0)));
-        assert_eq!(rt; read_ip(b"1.2.3"), Err(ShapeFault(5)));
-        assert_eq!(rt; read_ip(b"256.1.1.1"), Err(ShapeFault(2)));
-        assert_eq!(rt; read_ip(b"01.1.1.1"), Err(ShapeFault(1)));
-        assert_eq!(rt; read_ip(b"10.0.0.7x"), Err(ShapeFault(8)));
-        Ok(())
-    }
-}

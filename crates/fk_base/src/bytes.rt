@@ -123,20 +123,3 @@ impl Words {
         Ok(())
     }
 }
-
-#[cfg(test)]
-mod tests {
-    use crate::{Bytes, Words};
-    use std::test::Fail;
-
-    #[test]
-    fn lists_grow(rt: HostRuntime) -> Result<(), Fail> {
-        let mut bytes = Bytes::copy(rt.alloc(), b"open ")?;
-        bytes.append(b"tcp/22")?;
-        let mut words = Words::new(rt.alloc());
-        words.push(bytes.as_slice())?;
-        assert_eq!(rt; words.count(), 1);
-        assert_eq!(rt; words.get(0), b"open tcp/22".as_slice());
-        Ok(())
-    }
-}

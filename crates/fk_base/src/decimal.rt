@@ -97,35 +97,3 @@ pub fn push_digit(value: u64, digit: u8, limit: u64) -> Option<u64>
     let next = value.checked_mul(10)?.checked_add(u64::from(digit))?;
     if next <= limit { Some(next) } else { None }
 }
-
-#[cfg(test)]
-mod tests {
-    use crate::{Bytes, Moment, NumFault, put_decimal, read_decimal, read_moment};
-    use std::test::Fail;
-
-    #[test]
-    fn numbers_are_read_and_written(rt: HostRuntime) -> Result<(), Fail> {
-        let mut out = Bytes::copy(rt.alloc(), b"at ")?;
-        put_decimal(u64::MAX, &mut out)?;
-        put_decimal(0, &mut out)?;
-        assert_eq!(rt; out.as_slice(), b"at 184467440737095516150".as_slice());
-        let rows = [
-            (b"".as_slice(), Err(NumFault::Empty)),
-            (b"1x".as_slice(), Err(NumFault::NotDigit(1))),
-            (b"01".as_slice(), Err(NumFault::LeadingZero)),
-            (b"01x".as_slice(), Err(NumFault::NotDigit(2))),
-            (b"0".as_slice(), Ok(0)),
-            (b"18446744073709551615".as_slice(), Ok(u64::MAX)),
-            (b"18446744073709551616".as_slice(), Err(NumFault::TooLarge)),
-        ];
-        for (text, answer) in rows {
-            assert_eq!(rt; read_decimal(text), answer);
-        }
-        assert_eq!(rt;
-            read_moment(b"999999999999").map(Moment::get),
-            Ok(999999999999)
-        );
-        assert_eq!(rt; read_moment(b"1000000000000"), Err(NumFault::TooLarge));
-        Ok(())
-    }
-}

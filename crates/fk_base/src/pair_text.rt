@@ -75,23 +75,3 @@ fn common_front(text: &[u8], word: &[u8]) -> usize
     }
     len
 }
-
-#[cfg(test)]
-mod tests {
-    use crate::{Bytes, Pair, Proto, ShapeFault, put_pair, read_pair};
-    use std::test::Fail;
-
-    #[test]
-    fn pairs_are_read_and_written(rt: HostRuntime) -> Result<(), Fail> {
-        let mut out = Bytes::copy(rt.alloc(), b"open ")?;
-        put_pair(Pair::new(Proto::Udp, 65535).ok_or("port 0")?, &mut out)?;
-        assert_eq!(rt; out.as_slice(), b"open udp/65535".as_slice());
-        assert_eq!(rt; read_pair(b"tcp/22").ok(), Pair::new(Proto::Tcp, 22));
-        assert_eq!(rt; read_pair(b""), Err(ShapeFault(0)));
-        assert_eq!(rt; read_pair(b"tdp/22"), Err(ShapeFault(1)));
-        assert_eq!(rt; read_pair(b"tcp/"), Err(ShapeFault(4)));
-        assert_eq!(rt; read_pair(b"tcp/0"), Err(ShapeFault(4)));
-        assert_eq!(rt; read_pair(b"tcp/65536"), Err(ShapeFault(8)));
-        Ok(())
-    }
-}

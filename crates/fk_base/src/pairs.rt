@@ -85,22 +85,3 @@ impl Pairs {
         &self.items[..self.len]
     }
 }
-
-#[cfg(test)]
-mod tests {
-    use crate::{Pair, Pairs, PairsFull, Proto};
-    use std::test::Fail;
-
-    #[test]
-    fn a_list_holds_16(rt: HostRuntime) -> Result<(), Fail> {
-        let mut pairs = Pairs::one(Pair::new(Proto::Tcp, 22).ok_or("port 0")?);
-        let other = Pair::new(Proto::Udp, 53).ok_or("port 0")?;
-        for _ in 0..15 {
-            pairs.push(other).map_err(|_| "full")?;
-        }
-        assert_eq!(rt; pairs.push(other), Err(PairsFull));
-        let same = pairs.clone()?;
-        assert_eq!(rt; same.as_slice().len(), 16);
-        Ok(())
-    }
-}

@@ -85,21 +85,3 @@ impl PairsText {
         self.len = end;
     }
 }
-
-#[cfg(test)]
-mod tests {
-    use crate::{Bytes, Pair, Pairs, Proto, put_pairs};
-    use std::test::Fail;
-
-    #[test]
-    fn lists_are_written(rt: HostRuntime) -> Result<(), Fail> {
-        let mut pairs = Pairs::one(Pair::new(Proto::Tcp, 22).ok_or("port 0")?);
-        pairs
-            .push(Pair::new(Proto::Udp, 53).ok_or("port 0")?)
-            .map_err(|_| "full")?;
-        let mut out = Bytes::copy(rt.alloc(), b"10.0.0.7,")?;
-        put_pairs(&pairs, &mut out)?;
-        assert_eq!(rt; out.as_slice(), b"10.0.0.7,tcp/22,udp/53".as_slice());
-        Ok(())
-    }
-}

@@ -14,8 +14,6 @@ mod open_fault;
 mod opening;
 mod padding;
 mod salted;
-#[cfg(test)]
-mod tests;
 
 pub use derivation::derive;
 pub use open_fault::OpenFault;

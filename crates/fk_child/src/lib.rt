@@ -11,8 +11,6 @@ mod crew;
 mod items;
 mod laws;
 mod obligations;
-#[cfg(test)]
-mod tests;
 
 pub use crew::Crew;
 pub use items::{EndItem, PollEnd, Tried};

@@ -21,8 +21,6 @@ mod sent;
 mod settled;
 mod settling;
 mod stanzas;
-#[cfg(test)]
-mod tests;
 
 pub use command::fwknop_run;
 pub use need_fault::NeedFault;

@@ -13,8 +13,6 @@ mod head;
 mod laws;
 mod reading;
 mod tail;
-#[cfg(test)]
-mod tests;
 mod writing;
 
 pub use fault::DecodeFault;

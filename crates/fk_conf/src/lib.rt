@@ -18,12 +18,8 @@ mod rc_file;
 mod rc_name;
 mod rc_stanza;
 mod rc_stanza_of;
-#[cfg(test)]
-mod rc_tests;
 mod reading;
 mod reading_rc;
-#[cfg(test)]
-mod tests;
 
 pub use conf::Conf;
 pub use conf_err::{ConfErr, ConfWhat};

@@ -11,8 +11,6 @@ mod act;
 mod kept;
 mod laws;
 mod machine;
-#[cfg(test)]
-mod tests;
 
 pub use act::{Act, CloseEnd};
 pub use machine::Machine;

@@ -12,8 +12,6 @@ mod opening;
 mod serving;
 mod session;
 mod task;
-#[cfg(test)]
-mod tests;
 
 pub use laws::what_serving_leaves_is_of_a_visit;
 pub use serving::serve;

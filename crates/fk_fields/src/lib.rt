@@ -10,8 +10,6 @@ mod fields;
 mod laws;
 mod message;
 mod rand;
-#[cfg(test)]
-mod tests;
 
 pub use fields::{Ask, FieldFault, Fields, is_user, is_version};
 pub use laws::messages_are_found;

@@ -15,6 +15,3 @@ mod line_reader;
 pub use fault::{Fault, LineFault};
 pub use laws::{reading_exists, reading_is_unique};
 pub use line_reader::{LineReader, NextLine};
-
-#[cfg(test)]
-mod tests;

@@ -13,8 +13,6 @@ mod laws;
 mod ledger;
 mod owed;
 mod reading;
-#[cfg(test)]
-mod tests;
 mod writing;
 
 pub use fault::RecordFault;

@@ -10,8 +10,6 @@ mod cut;
 mod fault;
 mod line;
 mod lines;
-#[cfg(test)]
-mod tests;
 mod trim;
 
 pub use fault::LineFault;

@@ -14,8 +14,6 @@ mod laws;
 mod line;
 mod piece;
 mod tally;
-#[cfg(test)]
-mod tests;
 mod usage_fault;
 mod verbosity;
 mod writer;

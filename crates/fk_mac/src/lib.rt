@@ -9,8 +9,6 @@
 mod hashes;
 mod hmac;
 mod mac_buf;
-#[cfg(test)]
-mod tests;
 
 pub use hashes::{hash, hash_text, packet_digest};
 pub use hmac::{codes_have_len, mac, mac_text, verify};

@@ -16,8 +16,6 @@ mod laws;
 mod link;
 mod sink;
 mod source;
-#[cfg(test)]
-mod tests;
 mod trace;
 
 pub use children::{HeldChild, StartScript};

@@ -13,8 +13,6 @@ mod opening;
 mod packet_shape;
 mod packing;
 mod sealed;
-#[cfg(test)]
-mod tests;
 
 pub use fault::PacketFault;
 pub use laws::{datagrams_are_opened, datagrams_have_shape, one_packet};

@@ -1,7 +1,8 @@
 ghost use Rattle.std.specs.Prelude.{None};
 
 use fk_base::Failed;
-use fk_host::{MemSink, Sink};
+use fk_host::Sink;
+use fk_memory::MemSink;
 use std::alloc::Global;
 
 /// A sink in memory that takes so many bytes at most in one write, and counts its writes.

@@ -34,7 +34,7 @@ mod values;
 mod words;
 
 use fk_base::{NoMemory, Words};
-use fk_host::{DirFiles, StdSink};
+use fk_system::{DirFiles, StdSink};
 use fk_program::argument_words;
 use fk_row_text::run_rows;
 use row_calls::RowCalls;

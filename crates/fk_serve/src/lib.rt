@@ -15,8 +15,6 @@ mod limits;
 mod listing;
 mod running;
 mod serving;
-#[cfg(test)]
-mod tests;
 mod trying;
 
 pub use history::calls_of_the_program_are_a_history;

@@ -23,6 +23,3 @@ pub use laws::values_are_plain_bytes;
 pub use piece::Piece;
 pub use template::{Template, is_template, split};
 pub use variable::Var;
-
-#[cfg(test)]
-mod tests;

@@ -9,8 +9,6 @@
 
 mod letter;
 mod short;
-#[cfg(test)]
-mod tests;
 mod text;
 mod text_fault;
 

@@ -5,8 +5,6 @@
 //! Start at `timer`; what waits in which order stands in `specs/Schedule.antt`.
 #![tactic(auto)]
 
-#[cfg(test)]
-mod tests;
 mod timer;
 
 pub use timer::Timer;

@@ -12,8 +12,6 @@ mod laws;
 mod line;
 mod session;
 mod task;
-#[cfg(test)]
-mod tests;
 mod trial_host;
 mod trying;
 

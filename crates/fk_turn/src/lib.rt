@@ -11,8 +11,6 @@ mod daemon;
 mod decision;
 mod feed_turn;
 mod policy;
-#[cfg(test)]
-mod tests;
 mod turn_err;
 
 pub use daemon::Daemon;

@@ -16,8 +16,6 @@ mod net;
 mod number;
 mod pairs;
 mod setting_fault;
-#[cfg(test)]
-mod tests;
 
 pub use flag::read_flag;
 pub use given::{Given, MOST_SETTINGS};

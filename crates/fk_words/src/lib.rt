@@ -14,8 +14,6 @@ mod operand;
 mod operand_walk;
 mod option_set;
 mod reading;
-#[cfg(test)]
-mod tests;
 mod tool;
 mod word_fault;
 mod word_places;

@@ -1,4 +1,0 @@
-use Rattle.fk_admit.proofs.tests.the_first_stanza_that_grants_is_taken.Given as goal
-
-abbrev pub ghosts-each_row : goal.ghosts-each_row
-ghosts-each_row g a = record { name = a.blank.name; parts = a.blank.parts }
