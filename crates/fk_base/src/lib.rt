@@ -41,7 +41,9 @@ pub use found::{find_ip, find_number, find_pair};
 pub use grant::Grant;
 pub use hash_kind::HashKind;
 pub use keys::Keys;
-pub use laws::{addresses_are_found, numbers_are_found, pairs_are_found};
+pub use laws::{
+    addresses_are_found, limits_have_their_numbers, numbers_are_found, pairs_are_found,
+};
 pub use memory::{Failed, NoMemory};
 pub use moment::{GREATEST_MOMENT, LONGEST_TIME, Moment};
 pub use net::Net4;

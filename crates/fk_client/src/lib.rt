@@ -11,6 +11,7 @@
 mod command;
 mod help;
 mod key_making;
+mod laws;
 mod need_fault;
 mod packing;
 mod printing;
@@ -23,6 +24,7 @@ mod settling;
 mod stanzas;
 
 pub use command::fwknop_run;
+pub use laws::version_has_its_text;
 pub use need_fault::NeedFault;
 pub use packing::{DRAWN_BYTES, packet};
 pub use sent::Packet;

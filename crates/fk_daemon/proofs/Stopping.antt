@@ -225,7 +225,7 @@ calls-behind : (task : Task) (ledger : List Change) (turns : List TakenTurn) (ol
 calls-behind task ledger turns old mid new going taken begun more calls =
     let here : IfTold mid.outside.host.told new.outside.host.told (λ before later. CallsBehind more taken later) =
     told-both mid.outside.host.told new.outside.host.told (λ x y. BeginsAt (x.moments + 1) taken.items) (λ x y. y.moments ≡ x.moments + (calls_for taken.items taken.changes + more))
-        (λ x y. CallsBehind more taken y) (λ x y b c. calls-from more taken taken.items refl x y b c) begun calls in
+    (λ x y. CallsBehind more taken y) (λ x y b c. calls-from more taken taken.items refl x y b c) begun calls in
     told-join old.outside.host.told mid.outside.host.told new.outside.host.told (AddsItems (items_in turns)) (λ x y. CallsBehind more taken y) (λ x y. CallsBehind more taken y)
     (λ x y z f g. g) going.adds.trace here
 

@@ -23,15 +23,14 @@ use Rattle.fk_daemon.proofs.Behind.{order}
 -- what holds the same entries keeps the State of each ledger
 pub same-state : (from image : Areas) → SameEntries (selected from) (selected image) → KeepsState from image
 same-state from image same ledger state =
-    let held : HoldsLedger from state.0 = state.1 in
-    (
+    let held : HoldsLedger from state.0 = state.1 in (
       state.0,
       record { entries = same_held (selected from) (selected image) (ledger_contents state.0) same held.entries; each = held.each; follow = held.follow },
       state.2,
     )
 
 module _ (task : Task) (account : Account) (old new : View) (before later : Told) (serving : IsServing task account) (adds : AddsItems (trace_of account.run) before later)
-  (moments : RunMoments account.run (tried_changes account) old.images new.images before later) where
+    (moments : RunMoments account.run (tried_changes account) old.images new.images before later) where
   -- before its first call of the disk a run leaves what stood at entry
   leaves-none : (moment : ℕ) (image : Areas) → moment ≤ moments.unsynced → old.images before.moments image → LeavesNone account old before moment image
   leaves-none moment image low stood =

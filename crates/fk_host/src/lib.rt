@@ -13,6 +13,7 @@ mod entropy;
 mod feed;
 mod files;
 mod host;
+mod laws;
 mod link;
 mod stream;
 
@@ -21,5 +22,6 @@ pub use entropy::Entropy;
 pub use feed::{DATAGRAM_ROOM, Feed, Input, Turn};
 pub use files::{FileErr, Files, HeldFile};
 pub use host::{ChildId, Host, StartErr};
+pub use laws::datagrams_have_their_room;
 pub use link::Link;
 pub use stream::{Sink, Source, write_all};

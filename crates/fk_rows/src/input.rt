@@ -1,6 +1,6 @@
 //! The call of fk_input: the lines of an input.
-use fk_memory::MemSource;
 use fk_input::{LineReader, NextLine, reading_exists, reading_is_unique};
+use fk_memory::MemSource;
 use fk_row_text::{Answer, Arguments, RowFault};
 use std::alloc::Global;
 

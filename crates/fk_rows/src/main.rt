@@ -34,9 +34,9 @@ mod values;
 mod words;
 
 use fk_base::{NoMemory, Words};
-use fk_system::{DirFiles, StdSink};
 use fk_program::argument_words;
 use fk_row_text::run_rows;
+use fk_system::{DirFiles, StdSink};
 use row_calls::RowCalls;
 use std::io;
 use std::process::ExitCode;

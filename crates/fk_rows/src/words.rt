@@ -1,8 +1,8 @@
 //! The words of a command line, read by fk_conf. A row's words stand behind the name of the program.
 use crate::showing::{put_address_if, put_bytes_if, put_number_if, put_pairs};
 use fk_base::{Bytes, NoMemory};
-use fk_words::{Command, SendWords, Tool, WordFault, read_words};
 use fk_row_text::{Answer, Arguments, RowFault};
+use fk_words::{Command, SendWords, Tool, WordFault, read_words};
 use std::alloc::Global;
 
 /// Makes the call of this name, where it is one of these.

@@ -11,12 +11,12 @@ mod fault_names;
 mod files;
 mod help;
 mod history;
-mod limits;
+mod laws;
 mod listing;
 mod running;
 mod serving;
 mod trying;
 
 pub use history::calls_of_the_program_are_a_history;
-pub use limits::limits_have_their_numbers;
+pub use laws::version_has_its_text;
 pub use running::fwknopd_run;

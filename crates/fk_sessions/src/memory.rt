@@ -4,4 +4,6 @@ pub use fk_host::{
     Area, DATAGRAM_ROOM, Disk, Entropy, Feed, FileErr, Files, Input, Link, Sink, Source, Turn,
     write_all,
 };
-pub use fk_memory::{MemEntropy, MemFeed, MemFiles, MemHost, MemLink, MemSink, MemSource, StartScript};
+pub use fk_memory::{
+    MemEntropy, MemFeed, MemFiles, MemHost, MemLink, MemSink, MemSource, StartScript,
+};

@@ -1,6 +1,8 @@
 //! What follows from the definitions alone. Each function is a law, and does nothing.
 ghost use Rattle.std.specs.Prelude.{◌≡◌, ℕ, List};
 ghost use Rattle.fk_words.specs.declared.command.Command.{Command};
+ghost use Rattle.fk_words.specs.declared.command_option.TheConstants.{GREATEST_LIMIT};
+ghost use Rattle.fk_words.specs.declared.operand.TheConstants.{GREATEST_COUNT};
 ghost use Rattle.fk_words.specs.declared.tool.Tool.{Tool};
 ghost use Rattle.fk_words.specs.declared.tool.Tool.TheVariants.{Client, Daemon};
 ghost use Rattle.fk_words.specs.CommandOf.{AskAlike, IsCommandOf};
@@ -21,4 +23,10 @@ pub fn client_words_ask_for_one_packet()
 pub fn daemon_words_ask_for_one_command()
     ensures own { (words : List (List ℕ)) (asked : Command) → ReadsWords Daemon words asked → IsForDaemon asked }
     ensures one { (words : List (List ℕ)) (a b : Command) → ReadsWords Daemon words a → ReadsWords Daemon words b → a ≡ b }
+{}
+
+/// The greatest limit on the datagrams or the turns of a run, and how many lines are generated at most.
+pub fn limits_have_their_numbers()
+    ensures limit { GREATEST_LIMIT ≡ 1000000000 }
+    ensures count { GREATEST_COUNT ≡ 100000 }
 {}
