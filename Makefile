@@ -42,7 +42,7 @@ bin/unproved/%: $(SOURCES)
 	@echo "building $* UNPROVED (about a minute)" >&2
 	@tests/lib/unproved $* $@
 
-demo: ## shows the sample trial, and a daemon on the loopback with one packet
+demo: ## shows the sample trial, and a daemon on the loopback: one packet, and a kill with a door open
 	@built=$$(tests/lib/program fwknopd) && [ -z "$$(find $(SOURCES) -newer "$$built" -print -quit)" ] \
 	&& { echo "make demo: with the proved program $$built" >&2; exec examples/demo; }; \
 	[ -n "$$built" ] || echo "make demo: no proved program is built" >&2; \
