@@ -10,12 +10,12 @@ use Rattle.fk_trace.specs.Trace.{Item}
 use Rattle.fk_trace.specs.Ledger.{Key, key_of, State, opens, dones, live, seen, next_id, after, state_of, IsLedger}
 use Rattle.fk_trace.specs.Settled.{EndedCleanly}
 use Rattle.fk_trace.proofs.Lists.{Contains-head, Contains-tail, Contains-cases, Contains-map}
-use Rattle.fk_trace.proofs.Splits.{Contains-recursion, recursion-behind, AllPairs-front}
+use Rattle.fk_trace.proofs.Splits.{Contains-recursion, recursion-behind, recursion-joined, AllPairs-front}
 use Rattle.fk_trace.proofs.Ledgers.{opens-append, dones-append}
 use Rattle.fk_run.specs.Run.{trace_of, changes_of}
 use Rattle.fk_run.specs.Headline.{OpensOnce, opens_attempted}
 use Rattle.fk_run.specs.Left.{items_behind, crashed}
-use Rattle.fk_run.specs.History.{Visit, IsVisit, IsHistory, FollowOn, trace_left, changes_left, ledger_left, OpensByGrantOnly, StartsAllThatIsOwed, AttemptsBelongTo, OpensOnceEver, IsOn, EndedIn, StaysOwed}
+use Rattle.fk_run.specs.History.{Visit, IsVisit, IsHistory, FollowOn, left_in_the_end, trace_left, changes_left, ledger_left, OpensByGrantOnly, StartsAllThatIsOwed, AttemptsBelongTo, OpensOnceEver, IsOn, EndedIn, StaysOwed}
 use Rattle.fk_run.proofs.Cutting.{split-at}
 use Rattle.fk_run.proofs.Ledgers.{settled-below, seen-apart, live-unless_settled, live-recorded}
 use Rattle.fk_run.proofs.Leaves.{leaves-ledger}
@@ -231,3 +231,17 @@ owed-history found history is front visit between next later e item on =
 -- each run of a history is a visit
 pub visit-in : (found : List Change) (history : List Visit) → IsHistory found history → (visit : Visit) → Contains history visit → IsVisit visit
 visit-in found history is visit m = Contains-recursion IsVisit history visit is.visits m
+
+pub left-last : (found : List Change) (history : List Visit) (visit : Visit) → left_in_the_end found (history ++ visit ∷ []) ≡ ledger_left visit
+left-last found [] visit = refl
+left-last found (first ∷ history) visit = left-last (ledger_left first) history visit
+
+follow-last : (found : List Change) (history : List Visit) (visit : Visit) → FollowOn found history → state_of visit.run.ledger ≡ state_of (left_in_the_end found history) → FollowOn found (history ++ visit ∷ [])
+follow-last found [] visit follow e = (e, tt)
+follow-last found (first ∷ history) visit follow e = (follow.0, follow-last (ledger_left first) history visit follow.1 e)
+
+-- a run that found what a history left is one more of it
+pub history-next : (found : List Change) (history : List Visit) (visit : Visit) → IsHistory found history → IsVisit visit → state_of visit.run.ledger ≡ state_of (left_in_the_end found history)
+    → IsHistory found (history ++ visit ∷ [])
+history-next found history visit is next e =
+    record { begins = is.begins; visits = recursion-joined IsVisit history (visit ∷ []) is.visits (next, tt); follow = follow-last found history visit is.follow e }

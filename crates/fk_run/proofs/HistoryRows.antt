@@ -14,7 +14,7 @@ use Rattle.fk_trace.specs.declared.change.Change.{Change}
 use Rattle.fk_trace.specs.declared.change.Change.TheVariants.{Open as OpenChange, Done}
 use Rattle.fk_trace.specs.Trace.{Item, Child}
 use Rattle.fk_trace.specs.Trace.Event.{Turn, Began, Ended}
-use Rattle.fk_trace.specs.Ledger.{Key, key_of, State, opens, seen, next_id}
+use Rattle.fk_trace.specs.Ledger.{Key, key_of, State, opens, dones, live, seen, next_id}
 use Rattle.fk_trace.specs.Decision.Input.{Quiet}
 use Rattle.fk_trace.specs.Settled.{EndedCleanly}
 use Rattle.fk_trace.proofs.Lists.{Contains-head, Contains-tail, Contains-cases, Contains-map, All-by}
@@ -262,6 +262,16 @@ started_without_its_record : (count : ℕ) (next : Visit) (later : List Visit) �
 started_without_its_record count next later none is =
     let lacks = ap next_id none in
     no_attempt_without_its_record [] (opened count) next later is 1 (Contains-head 1 []) (omega arith)
+
+-- None is one whose second run begins on a ledger in which a record that the first left live is not.
+no_live_record_is_lost : (start : List Change) (earlier next : Visit) (later : List Visit) → IsHistory start (earlier ∷ next ∷ later) → (item : OpenRecord)
+    → Contains (live (ledger_left earlier)) item → Contains (live next.run.ledger) item
+no_live_record_is_lost start earlier next later is item m = subst (λ (state : State). Contains state.live item) (sym is.follow.1.0) m
+
+-- None is one in which a Done is left of a record of which no clean close had ended well.
+no_done_before_its_end : (start : List Change) (history : List Visit) → IsHistory start history → (visit : Visit) → Contains history visit → (id : ℕ) → Contains (dones (changes_left visit)) id
+    → EndedCleanly [] (trace_left visit) id
+no_done_before_its_end start history is visit m id done = (visit-in start history is visit m).left.settled id done
 
 -- None is one in whose runs opens are attempted for two records of one key.
 record IsAttemptedIn (visit : Visit) (item : OpenRecord) : Type 0 where

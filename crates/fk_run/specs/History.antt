@@ -48,6 +48,11 @@ abbrev pub FollowOn : List Change → List Visit → Type 0
 FollowOn found [] = Unit {0}
 FollowOn found (visit ∷ later) = (state_of visit.run.ledger ≡ state_of found) × FollowOn (ledger_left visit) later
 
+-- what the last run of them left, or, where there is none, this ledger
+abbrev pub left_in_the_end : List Change → List Visit → List Change
+left_in_the_end found [] = found
+left_in_the_end found (visit ∷ later) = left_in_the_end (ledger_left visit) later
+
 -- A history: runs over the same areas, one after another, the first over this ledger. All that the headline presumes stands here.
 pub record IsHistory (found : List Change) (history : List Visit) : Type 0 where
   -- the areas held a ledger before the first run

@@ -1,15 +1,17 @@
-ghost use Rattle.std.specs.Prelude.{List};
+ghost use Rattle.std.specs.Prelude.{◌≡◌, List, [], ◌∷◌, ◌++◌};
 ghost use Rattle.std.specs.List.{Contains};
 ghost use Rattle.fk_trace.specs.declared.change.Change.{Change};
-ghost use Rattle.fk_trace.specs.Ledger.{IsLedger};
+ghost use Rattle.fk_trace.specs.Ledger.{IsLedger, state_of};
 ghost use Rattle.fk_run.specs.History.{
   Visit,
+  IsVisit,
   IsHistory,
   OpensByGrantOnly,
   OpensOnceEver,
   StartsAllThatIsOwed,
   StaysOwed,
   ledger_left,
+  left_in_the_end,
 };
 
 /// Every history keeps the headline, whatever its datagrams, moments, ends of children and crashes: an open is attempted only for
@@ -25,4 +27,12 @@ pub fn histories_keep_the_headline()
     ensures owed { (found : List Change) (history : List Visit) → IsHistory found history → StaysOwed history }
     ensures ledgers { (found : List Change) (history : List Visit) → IsHistory found history
         → (visit : Visit) → Contains history visit → IsLedger (ledger_left visit) }
+{}
+
+/// A run that found what a history left in the end is one more of that history, and what it leaves is then left in the end.
+pub fn histories_go_on()
+    ensures next { (found : List Change) (history : List Visit) (visit : Visit) → IsHistory found history → IsVisit visit
+        → state_of visit.run.ledger ≡ state_of (left_in_the_end found history) → IsHistory found (history ++ visit ∷ []) }
+    ensures end { (found : List Change) (history : List Visit) (visit : Visit)
+        → left_in_the_end found (history ++ visit ∷ []) ≡ ledger_left visit }
 {}

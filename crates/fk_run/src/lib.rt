@@ -13,7 +13,7 @@ mod history;
 mod laws;
 mod limits;
 
-pub use history::histories_keep_the_headline;
+pub use history::{histories_go_on, histories_keep_the_headline};
 pub use laws::{
     legal_runs_keep_the_headline, legal_runs_leave_a_ledger, legal_runs_make_what_is_planned,
     legal_runs_tell_children_apart, what_is_granted_is_opened,
