@@ -1,12 +1,12 @@
 -- What a trial leaves, and that it ends well where nothing stands in its way.
-use Rattle.std.proofs.Common.{◌≡◌, ◌≢◌, ◌⊎◌, ℕ, Bool, true, false, List, Option, Some, None, ⊎_elim, refl, sym, subst, inl, inr, arith}
+use Rattle.std.proofs.Common.{◌≡◌, ◌≢◌, ◌⊎◌, ℕ, ◌+◌, Bool, true, false, List, Option, Some, None, ⊎_elim, refl, sym, subst, inl, inr, arith}
 use Rattle.fk_base.specs.declared.status.Status.{Status}
 use Rattle.fk_base.specs.declared.status.Status.TheVariants as status
 use Rattle.fk_trace.specs.Decision.{FeedTurn}
 use Rattle.fk_run.specs.Run.{Ending}
 use Rattle.fk_run.specs.Run.Ending.{AtLimit, AtEnd, AtFeedFault, AtDiskFault, AtWantOfMemory, AtBadLine, AtLongInput, AtReadFault}
 use Rattle.fk_input.specs.declared.fault.Fault.{Fault}
-use Rattle.fk_input.specs.Lines.{Reads, end, line, bad, long}
+use Rattle.fk_input.specs.Lines.{Reads, input_limit, end, line, bad, long}
 use Rattle.fk_log.specs.declared.verbosity.Verbosity.{Verbosity}
 use Rattle.fk_log.specs.Causes.{FailsOnlyAs, FailsSink}
 use Rattle.fk_conf.specs.declared.conf.Conf.{Conf}
@@ -16,7 +16,7 @@ use Rattle.fk_child.specs.View.{View}
 use Rattle.fk_daemon.specs.Outside.{FeedView}
 use Rattle.fk_trial.specs.declared.task.TrialTask.{TrialTask}
 use Rattle.fk_trial.specs.Lines.{IsTurnLine}
-use Rattle.fk_trial.specs.Streams.{Streams}
+use Rattle.fk_trial.specs.Streams.{Streams, TakesAtMost}
 use Rattle.fk_trial.specs.Trial.{HasStatus, HasTurns, Tries}
 use Rattle.fk_serve.specs.Causes.{FailsByAnswer}
 use Rattle.fk_serve.specs.Files.{Names, ReadsFiles}
@@ -86,13 +86,15 @@ trying-spares task old new answer tries = run-spares tries.run.ending tries.is_b
 -- both files were read and tried by
 pub tried : (names : Names) (verbosity : Verbosity) (old new : FilesView) (before after : Streams) (answer : Status)
     (task : TrialTask) (conf : Conf) (stanzas : List Stanza) → ReadsFiles names conf stanzas old new → task.policy.conf.now ≡ conf → task.policy.access.now ≡ stanzas
-    → task.verbosity ≡ verbosity → Tries task before after answer → TriesFiles names verbosity (bench old before) (bench new after) answer
-tried names verbosity old new before after answer task conf stanzas reads of_conf of_access told tries = record {
+    → task.verbosity ≡ verbosity → Tries task before after answer → TakesAtMost (input_limit + 1) before.input.left after.input.left
+    → TriesFiles names verbosity (bench old before) (bench new after) answer
+tried names verbosity old new before after answer task conf stanzas reads of_conf of_access told tries bound = record {
   task = task;
   told = told;
   files = subst (λ (c : Conf). ReadsFiles names c task.policy.access.now old new) (sym of_conf)
       (subst (λ (s : List Stanza). ReadsFiles names conf s old new) (sym of_access) reads);
   tries = tries;
+  bound = bound;
 }
 
 -- tried by files of these names, or their fault told
@@ -107,7 +109,7 @@ around : (feed : FeedView) (host : View) (names : Names) (verbosity : Verbosity)
     → TriesByFiles names verbosity (tried_in feed host old) (tried_in feed host new) answer ⊎ RefusesFiles names (tried_in feed host old) (tried_in feed host new) answer
 around feed host names verbosity old new answer came =
     elim came [
-      | inl tries ↦ inl (record { task = tries.task; told = tries.told; files = tries.files; feed = refl; host = same-host host; tries = tries.tries })
+      | inl tries ↦ inl (record { task = tries.task; told = tries.told; files = tries.files; feed = refl; host = same-host host; tries = tries.tries; bound = tries.bound })
       | inr tells ↦ inr (record { fault = tells.fault; fails = tells.fails; rest = record { feed = refl; host = same-host host; input = tells.input }; tells = tells.tells })
     ]
 

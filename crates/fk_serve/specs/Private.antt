@@ -1,5 +1,5 @@
 -- What the contracts of this crate's private functions speak of. No public contract cites it, so no caller has to believe it.
-use Rattle.std.specs.Prelude.{◌≡◌, ℕ, Bool, false, not, List, map, ◌==◌}
+use Rattle.std.specs.Prelude.{◌≡◌, ℕ, ◌+◌, Bool, false, not, List, map, ◌==◌}
 use Rattle.std.specs.List.{filter, list_any}
 use Rattle.fk_base.specs.declared.status.Status.{Status}
 use Rattle.fk_trace.specs.declared.change.Change.{Change}
@@ -19,7 +19,8 @@ use Rattle.fk_log.specs.Printing.{SinkView, sink_by}
 use Rattle.fk_daemon.specs.Outside.{FeedView, Outside}
 use Rattle.fk_serve.specs.declared.files.FileNames.{FileNames}
 use Rattle.fk_trial.specs.declared.task.TrialTask.{TrialTask}
-use Rattle.fk_trial.specs.Streams.{SourceView, Streams, streams_by}
+use Rattle.fk_input.specs.Lines.{input_limit}
+use Rattle.fk_trial.specs.Streams.{SourceView, Streams, TakesAtMost, streams_by}
 use Rattle.fk_trial.specs.Trial.{Tries}
 use Rattle.fk_program.specs.Faults.{Fault, Tells}
 use Rattle.fk_program.specs.Files.{FilesView, files_by}
@@ -66,6 +67,7 @@ pub record TriesFiles (names : Names) (verbosity : Verbosity) (old new : Bench) 
   pub told : task.verbosity ≡ verbosity
   pub files : ReadsFiles names task.policy.conf.now task.policy.access.now old.files new.files
   pub tries : Tries task old.streams new.streams answer
+  pub bound : TakesAtMost (input_limit + 1) old.streams.input.left new.streams.input.left
 
 -- the first fault of the two files was told
 pub record TellsFiles (names : Names) (old new : Bench) (answer : Status) : Type 0 where

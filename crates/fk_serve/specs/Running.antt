@@ -1,5 +1,5 @@
 -- What a run of the program does, whole, by what its words ask for.
-use Rattle.std.specs.Prelude.{◌≡◌, ◌⊎◌, ℕ, Bool, true, false, List}
+use Rattle.std.specs.Prelude.{◌≡◌, ◌⊎◌, ℕ, ◌+◌, Bool, true, false, List}
 use Rattle.fk_base.specs.declared.status.Status.{Status}
 use Rattle.fk_run.specs.declared.limits.Limits.{Limits}
 use Rattle.fk_log.specs.declared.verbosity.Verbosity.{Verbosity}
@@ -12,6 +12,8 @@ use Rattle.fk_words.specs.ReadsWords.{ReadsWords, IsWordErr}
 use Rattle.fk_daemon.specs.declared.task.Task.{Task}
 use Rattle.fk_daemon.specs.Serving.{Serves}
 use Rattle.fk_trial.specs.declared.task.TrialTask.{TrialTask}
+use Rattle.fk_input.specs.Lines.{input_limit}
+use Rattle.fk_trial.specs.Streams.{TakesAtMost}
 use Rattle.fk_trial.specs.Trial.{Tries}
 use Rattle.fk_serve.specs.declared.help.TheConstants.{HELP, VERSION}
 use Rattle.fk_serve.specs.World.{World, LeavesRest, SaysTheSame, streams_of}
@@ -50,6 +52,8 @@ pub record TriesByFiles (names : Names) (verbosity : Verbosity) (old new : World
   pub feed : new.outside.feed ≡ old.outside.feed
   pub host : SaysTheSame old.outside.host new.outside.host
   pub tries : Tries task (streams_of old) (streams_of new) answer
+  -- however long the input is
+  pub bound : TakesAtMost (input_limit + 1) old.input.left new.input.left
 
 abbrev pub serving_verbosity : Bool → Verbosity
 serving_verbosity false = verbosity.Normal

@@ -42,7 +42,7 @@ returns g c =
     let spares = trying-spares task before after c.trial.result c.trial.ensures.tries in
     record {
       tries = inl (tried (names_of c.args.names) c.args.verbosity (file c.args.files.now) (file c.read_files.new.files) before after c.trial.result
-          task c.in-Ok.settings.conf c.in-Ok.settings.access c.in-Ok.ensures says.conf says.access says.verbosity c.trial.ensures.tries);
+          task c.in-Ok.settings.conf c.in-Ok.settings.access c.in-Ok.ensures says.conf says.access says.verbosity c.trial.ensures.tries c.trial.ensures.bound);
       files = inr (spares.files, ap (λ (files : FilesView). files.faults) c.in-Ok.ensures.kept);
       input = c.trial.ensures.input;
       sink = c.trial.ensures.sink;
