@@ -18,9 +18,6 @@ NAME = viltsoem-$(VERSION)
 
 SOURCES := crates.txt HANDLES $(shell find crates -name out -prune -o -type f \( -name '*.rt' -o -name '*.antt' \) -print)
 
-# the unproved builds of the programs
-UNPROVED = $(PROGRAMS:%=bin/unproved/%)
-
 .PHONY: all demo test check bench install uninstall dist help is_prefix tree
 
 all: $(PROGRAMS:%=bin/%) ## proves and builds the programs, and leaves them in bin/
@@ -36,22 +33,17 @@ bin/%: $(SOURCES)
 	@cp crates/$*/out/$* bin/$*.new
 	@mv bin/$*.new bin/$*
 
-# `rt try` compiles the sources and proves nothing.
-bin/unproved/%: $(SOURCES)
-	@mkdir -p bin/unproved
-	@echo "building $* UNPROVED (about a minute)" >&2
-	@tests/lib/unproved $* $@
-
 demo: ## shows the sample trial, and a daemon on the loopback: one packet, and a kill with a door open
 	@built=$$(tests/lib/program fwknopd) && [ -z "$$(find $(SOURCES) -newer "$$built" -print -quit)" ] \
 	&& { echo "make demo: with the proved program $$built" >&2; exec examples/demo; }; \
 	[ -n "$$built" ] || echo "make demo: no proved program is built" >&2; \
-	$(MAKE) -s $(UNPROVED) && echo "make demo: with an UNPROVED build" >&2 && PROGRAMS_FOLDER=$(CURDIR)/bin/unproved examples/demo
+	tests/lib/unproved $(PROGRAMS) && echo "make demo: with an UNPROVED build" >&2 && PROGRAMS_FOLDER=$(CURDIR)/bin/unproved examples/demo
 
-test: $(UNPROVED) bin/unproved/fk_sessions ## runs every crate's tests, the sessions and every script of tests/ from unproved builds, and proves nothing
-	tests/lib/try-crates
-	cd crates/fk_sessions/data && $(CURDIR)/bin/unproved/fk_sessions $$(cat ../args)
-	PROGRAMS_FOLDER=$(CURDIR)/bin/unproved tests/lib/scripts
+# Each program is built once, for its stored run and for all scripts. Where one step fails the others are made all the same.
+test: ## runs the stored runs, the tests of crates and the scripts of tests/ from unproved builds, and proves nothing
+	@failed=0; for step in unproved stored-runs try-crates scripts; do \
+		echo "tests/lib/$$step"; PROGRAMS_FOLDER=$(CURDIR)/bin/unproved tests/lib/$$step || failed=1; \
+	done; exit $$failed
 
 check: ## runs the gate: proofs, tests, planted bugs, programs and the scripts of tests/
 	.ci/run
