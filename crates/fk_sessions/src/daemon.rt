@@ -4,7 +4,7 @@ use crate::areas::{Areas, read_from};
 use crate::closed::ClosedFeed;
 use crate::fault::Fault;
 use crate::fields::Fields;
-use crate::memory::{MemFeed, MemFiles, MemHost, MemSink};
+use crate::memory::{Feed, MemFiles, MemHost, MemSink};
 use crate::setup::Setup;
 use crate::stage::Stage;
 use fk_base::{NoMemory, Status, Words};
@@ -29,31 +29,32 @@ pub fn run_over(
     areas: &Areas,
     turns: usize,
 ) -> Result<Ran, NoMemory> {
+    if setup.is_closed {
+        return run_on(alloc, words, files, setup, areas, &mut ClosedFeed::new());
+    }
     let mut feed = setup.feed(turns)?;
+    let mut ran = run_on(alloc, words, files, setup, areas, &mut feed)?;
+    ran.port = feed.port();
+    Ok(ran)
+}
+
+fn run_on<E: Feed>(
+    alloc: Global,
+    words: &Words,
+    files: &mut MemFiles,
+    setup: &Setup,
+    areas: &Areas,
+    feed: &mut E,
+) -> Result<Ran, NoMemory> {
     let mut host = setup.host(areas)?;
     let mut input = setup.source()?;
     let mut out = setup.sink();
-    let status = if setup.is_closed {
-        let mut closed = ClosedFeed::new();
-        fwknopd_run(
-            alloc,
-            words,
-            files,
-            &mut closed,
-            &mut host,
-            &mut input,
-            &mut out,
-        )
-    } else {
-        fwknopd_run(
-            alloc, words, files, &mut feed, &mut host, &mut input, &mut out,
-        )
-    };
+    let status = fwknopd_run(alloc, words, files, feed, &mut host, &mut input, &mut out);
     Ok(Ran {
         status,
         host,
         out,
-        port: feed.port(),
+        port: None,
     })
 }
 

@@ -40,10 +40,10 @@ pub fn lines_of<'a>(
     Ok(lines)
 }
 
-/// How many of the lines belong to the line above them.
-pub fn count_below(lines: &[Line<'_>]) -> usize {
+/// Those of the lines that belong to the line above them.
+pub fn lines_below<'a, 'b>(lines: &'a [Line<'b>]) -> &'a [Line<'b>] {
     match lines.iter().position(|line| !line.is_below()) {
-        Some(count) => count,
-        None => lines.len(),
+        Some(count) => &lines[..count],
+        None => lines,
     }
 }

@@ -12,6 +12,7 @@ mod answer;
 mod areas;
 mod client;
 mod closed;
+mod comparing;
 mod daemon;
 mod fault;
 mod fields;
@@ -29,7 +30,6 @@ mod running;
 mod setting;
 mod setup;
 mod show;
-mod showing;
 mod stage;
 mod stops;
 

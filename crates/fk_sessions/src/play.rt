@@ -1,5 +1,5 @@
 //! The sessions of a file, one after the other.
-use crate::line::{Line, count_below, lines_of};
+use crate::line::{Line, lines_below, lines_of};
 use crate::report::Report;
 use crate::stage::Stage;
 use fk_base::NoMemory;
@@ -33,11 +33,10 @@ pub fn play_file(alloc: Global, shared: File<'_>, file: File<'_>) -> Result<Repo
 
 /// Carries out each line, together with those that belong to it.
 fn play_lines(stage: &mut Stage, lines: &[Line<'_>], report: &mut Report) -> Result<(), NoMemory> {
-    let mut rest = lines;
-    while let Some((line, behind)) = rest.split_first() {
-        let (below, next) = behind.split_at(count_below(behind));
-        stage.play(line, below, report)?;
-        rest = next;
+    for (at, line) in lines.iter().enumerate() {
+        if at == 0 || !line.is_below() {
+            stage.play(line, lines_below(&lines[at + 1..]), report)?;
+        }
     }
     Ok(())
 }

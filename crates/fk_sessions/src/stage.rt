@@ -1,6 +1,7 @@
 //! What a session has, and what becomes of its lines.
 use crate::answer::Answer;
 use crate::areas::Areas;
+use crate::comparing::compare;
 use crate::fault::Fault;
 use crate::fields::Fields;
 use crate::line::Line;
@@ -10,7 +11,6 @@ use crate::report::Report;
 use crate::running::answer_to;
 use crate::setting::{set_block, set_up};
 use crate::setup::Setup;
-use crate::showing::compare;
 use fk_base::{Bytes, Moment, NoMemory};
 use std::alloc::Global;
 

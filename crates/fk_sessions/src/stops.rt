@@ -181,12 +181,10 @@ fn datagram_of(setup: &Setup, turn: usize) -> &[u8] {
 }
 
 fn has_twice(all: &[&[u8]]) -> bool {
-    let mut rest = all;
-    while let Some((first, behind)) = rest.split_first() {
-        if behind.iter().any(|other| *other == *first) {
+    for (at, first) in all.iter().enumerate() {
+        if all[at + 1..].iter().any(|other| *other == *first) {
             return true;
         }
-        rest = behind;
     }
     false
 }
