@@ -77,7 +77,7 @@ tree: all
 dist: tree ## makes two tarballs in bin/: the sources of the last commit, and the programs with an install.sh that needs no kit
 	@rm -rf bin/dist && mkdir -p bin/dist/$(NAME)-x86_64-linux
 	@git archive --format=tar.gz --prefix=$(NAME)/ -o bin/$(NAME).tar.gz HEAD
-	@cp -R bin/tree/bin bin/tree/share contrib/install.sh README.md CHANGES.md bin/dist/$(NAME)-x86_64-linux
+	@cp -R bin/tree/bin bin/tree/share contrib/install.sh README.md CHANGES.md docs bin/dist/$(NAME)-x86_64-linux
 	@tar -C bin/dist -czf bin/$(NAME)-x86_64-linux.tar.gz --owner=0 --group=0 --sort=name $(NAME)-x86_64-linux
 	@rm -rf bin/dist
 	@echo "made bin/$(NAME).tar.gz and bin/$(NAME)-x86_64-linux.tar.gz"
