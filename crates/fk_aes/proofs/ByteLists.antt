@@ -1,8 +1,7 @@
 -- Lists of bytes: their elements one by one, their sums, and that they stay lists of bytes.
-use Rattle.std.proofs.Common.{◌≡◌, ℕ, zero, suc, ◌+◌, ◌<◌, ◌≤◌, List, [], ◌∷◌, ◌++◌, length, get_or, set, map, take, drop, refl, sym, ap, ◌∙◌, arith, inl, inr}
+use Rattle.std.proofs.Common.{◌≡◌, ℕ, zero, suc, ◌+◌, ◌<◌, ◌≤◌, List, [], ◌∷◌, ◌++◌, length, get_or, map, refl, sym, ap, ◌∙◌, arith, inl, inr}
 use Rattle.std.proofs.lemmas.Bool.{cases_lt}
-use Rattle.std.proofs.lemmas.List.Edits.{map_over_more}
-use Rattle.std.proofs.lemmas.List.{append-nil, drop_all, get_or_default, length-append, length-drop, length-map, length-take, take_all, get_or-map, get_or_past, get_or_append_left, get_or-append_right}
+use Rattle.std.proofs.lemmas.List.{length-append, length-map, get_or-map, get_or_past, get_or_append_left, get_or-append_right}
 use Rattle.fk_base.specs.Bytes.{HasBytes}
 use Rattle.fk_aes.specs.Field.{◌⊕◌, xor_bytes}
 use Rattle.fk_aes.proofs.FieldLemmas.{xor-below, xor-twice}
@@ -106,14 +105,3 @@ xor_bytes-from_elements (z ∷ zs) (x ∷ xs) (y ∷ ys) lz lx h =
     let rest : zs ≡ xor_bytes xs ys =
     xor_bytes-from_elements zs xs ys (omega arith) (omega arith) (λ k l. h (suc k) (omega arith)) in
     λ i. first i ∷ rest i
-
--- ---- a loop that writes f x over each element x of a list
-
-pub map_over-next : (f : ℕ → ℕ) (xs ys : List ℕ) (i : ℕ) → i < length xs → ys ≡ map f (take i xs) ++ drop i xs
-    → set ys i (f (get_or ys i 0)) ≡ map f (take (i + 1) xs) ++ drop (i + 1) xs
-map_over-next f xs ys i l h =
-    map_over_more f xs ys i (get_or ys i 0) l h
-    (get_or_default ys i 0 (get_or ys i 0) (rw h (omega (arith, length-append (map f (take i xs)) (drop i xs), length-map (take i xs) f, length-take i xs, length-drop i xs))))
-
-pub map_over-end : (f : ℕ → ℕ) (xs ys : List ℕ) (i : ℕ) → length xs ≤ i → ys ≡ map f (take i xs) ++ drop i xs → ys ≡ map f xs
-map_over-end f xs ys i l h = h ∙ rw (take_all i xs l, drop_all i xs l, append-nil) refl

@@ -45,7 +45,7 @@ back_and_there s h = ap shift_rows (sub_bytes-inv_sub_bytes (inv_shift_rows s) (
 HasBytes-half_round : (s : List ℕ) → HasBytes 16 s → HasBytes 16 (shift_rows (sub_bytes s))
 HasBytes-half_round s h = HasBytes-shift_rows (sub_bytes s) (HasBytes-sub_bytes s h)
 
-HasBytes-inv_half_round : (s : List ℕ) → HasBytes 16 s → HasBytes 16 (inv_sub_bytes (inv_shift_rows s))
+pub HasBytes-inv_half_round : (s : List ℕ) → HasBytes 16 s → HasBytes 16 (inv_sub_bytes (inv_shift_rows s))
 HasBytes-inv_half_round s h = HasBytes-inv_sub_bytes (inv_shift_rows s) (HasBytes-inv_shift_rows s h)
 
 -- ---- the whole ciphers
@@ -55,7 +55,7 @@ module _ (w block : List ℕ) (hw : HasBytes 240 w) (hb : HasBytes 16 block) whe
   HasBytes-after_rounds zero l = rw after_rounds-zero (HasBytes-add_round_key block w 0 l hw hb)
   HasBytes-after_rounds (suc n) l = rw after_rounds-suc (HasBytes-add_round_key _ w (suc n) l hw (HasBytes-mix_columns _))
 
-  HasBytes-after_inv_rounds : (n : ℕ) → HasBytes 16 (after_inv_rounds w block n)
+  pub HasBytes-after_inv_rounds : (n : ℕ) → HasBytes 16 (after_inv_rounds w block n)
   HasBytes-after_inv_rounds zero = rw after_inv_rounds-zero (HasBytes-add_round_key block w 14 (omega arith) hw hb)
   HasBytes-after_inv_rounds (suc n) = rw after_inv_rounds-suc (HasBytes-inv_mix_columns _)
 

@@ -1,8 +1,8 @@
 -- The matrices of MixColumns and InvMixColumns undo each other, column by column.
-use Rattle.std.proofs.Common.{◌≡◌, ℕ, ◌<◌, [], ◌∷◌, refl, ap, ◌∙◌, arith}
+use Rattle.std.proofs.Common.{◌≡◌, ℕ, ◌<◌, [], ◌∷◌, refl, sym, ap, ◌∙◌, arith}
 use lib.Bits.{xor_zero_r}
 use Rattle.fk_base.specs.Bytes.{HasBytes}
-use Rattle.fk_aes.specs.Field.{◌⊕◌, ◌•◌, xtime, product_by_bits}
+use Rattle.fk_aes.specs.Field.{◌⊕◌, ◌•◌, xtime, product_by_bits, xor_bytes}
 use Rattle.fk_aes.specs.State.{row_times, mix_column, inv_mix_column}
 use Rattle.fk_aes.proofs.ByteLists.{written_out}
 use Rattle.fk_aes.proofs.FieldLemmas.{product-xor, product-below, same_at, xor-below, xor-interchange}
@@ -228,3 +228,19 @@ HasBytes-inv_mix_column a b c d =
         ),
       ),
     )
+
+-- a row of a matrix times a sum of columns
+row_times-xor : (k0 k1 k2 k3 a b c d p q r t : ℕ)
+    → row_times k0 k1 k2 k3 (a ⊕ p) (b ⊕ q) (c ⊕ r) (d ⊕ t) ≡ row_times k0 k1 k2 k3 a b c d ⊕ row_times k0 k1 k2 k3 p q r t
+unfolding row_times
+row_times-xor k0 k1 k2 k3 a b c d p q r t =
+    (λ i. sum4 (product-xor k0 a p i) (product-xor k1 b q i) (product-xor k2 c r i) (product-xor k3 d t i))
+    ∙ sym (sum4-sum4 (k0 • a) (k1 • b) (k2 • c) (k3 • d) (k0 • p) (k1 • q) (k2 • r) (k3 • t))
+
+-- InvMixColumns of a sum of two columns
+pub inv_mix_column-xor : (a b c d p q r t : ℕ)
+    → inv_mix_column (a ⊕ p) (b ⊕ q) (c ⊕ r) (d ⊕ t) ≡ xor_bytes (inv_mix_column a b c d) (inv_mix_column p q r t)
+unfolding inv_mix_column xor_bytes
+inv_mix_column-xor a b c d p q r t =
+    let row = λ (k0 k1 k2 k3 : ℕ). row_times-xor k0 k1 k2 k3 a b c d p q r t in
+    λ i. row 14 11 13 9 i ∷ row 9 14 11 13 i ∷ row 13 9 14 11 i ∷ row 11 13 9 14 i ∷ []

@@ -21,43 +21,9 @@ same_at f g h b l = eqb-true (f b) (g b) (true_at (λ x. f x == g x) b h l)
 pub byte_at_each : (f : ℕ → ℕ) → of_each_byte (λ b. nat_lt (f b) 256) ≡ true → (b : ℕ) → b < 256 → f b < 256
 byte_at_each f h b l = ltb-true (f b) 256 (true_at (λ x. nat_lt (f x) 256) b h l)
 
-pub xtime-shift : (b : ℕ) → b < 256 → (b * 2 % 256) ⊕ (b / 128 * 27) ≡ xtime b
-unfolding xtime
-xtime-shift = same_at (λ b. (b * 2 % 256) ⊕ (b / 128 * 27)) (λ b. xtime b) refl
-
 pub xtime-below : (b : ℕ) → b < 256 → xtime b < 256
 unfolding xtime
 xtime-below = byte_at_each (λ b. xtime b) refl
-
--- products with the constants of the two matrices, by xtime
-module _ where
-  pub product-1 : (b : ℕ) → b < 256 → 1 • b ≡ b
-  unfolding ◌•◌ product_by_bits xtime
-  product-1 = same_at (λ b. 1 • b) (λ b. b) refl
-
-  pub product-2 : (b : ℕ) → b < 256 → 2 • b ≡ xtime b
-  unfolding ◌•◌ product_by_bits xtime
-  product-2 = same_at (λ b. 2 • b) (λ b. xtime b) refl
-
-  pub product-3 : (b : ℕ) → b < 256 → 3 • b ≡ xtime b ⊕ b
-  unfolding ◌•◌ product_by_bits xtime
-  product-3 = same_at (λ b. 3 • b) (λ b. xtime b ⊕ b) refl
-
-  pub product-9 : (b : ℕ) → b < 256 → 9 • b ≡ xtime (xtime (xtime b)) ⊕ b
-  unfolding ◌•◌ product_by_bits xtime
-  product-9 = same_at (λ b. 9 • b) (λ b. xtime (xtime (xtime b)) ⊕ b) refl
-
-  pub product-11 : (b : ℕ) → b < 256 → 11 • b ≡ xtime (xtime (xtime b)) ⊕ xtime b ⊕ b
-  unfolding ◌•◌ product_by_bits xtime
-  product-11 = same_at (λ b. 11 • b) (λ b. xtime (xtime (xtime b)) ⊕ xtime b ⊕ b) refl
-
-  pub product-13 : (b : ℕ) → b < 256 → 13 • b ≡ xtime (xtime (xtime b)) ⊕ xtime (xtime b) ⊕ b
-  unfolding ◌•◌ product_by_bits xtime
-  product-13 = same_at (λ b. 13 • b) (λ b. xtime (xtime (xtime b)) ⊕ xtime (xtime b) ⊕ b) refl
-
-  pub product-14 : (b : ℕ) → b < 256 → 14 • b ≡ xtime (xtime (xtime b)) ⊕ xtime (xtime b) ⊕ xtime b
-  unfolding ◌•◌ product_by_bits xtime
-  product-14 = same_at (λ b. 14 • b) (λ b. xtime (xtime (xtime b)) ⊕ xtime (xtime b) ⊕ xtime b) refl
 
 -- the inverse is what the standard says: its product with the byte is 1
 pub product-inverse : (b : ℕ) → b < 256 → b • inverse b ≡ if b == 0 then 0 else 1

@@ -1,16 +1,21 @@
 -- The key schedule: its words are bytes, and each depends only on those before it.
-use Rattle.std.proofs.Common.{◌≡◌, ℕ, zero, suc, ◌+◌, ◌-◌, ◌*◌, ◌/◌, ◌%◌, ◌<◌, ◌≤◌, ◌==◌, Bool, true, false, List, [], ◌∷◌, ◌++◌, length, get_or, slice_index, set, take, refl, sym, ap, ◌∙◌, arith, append_assoc}
+use Rattle.std.proofs.Common.{◌≡◌, ℕ, zero, suc, ◌+◌, ◌-◌, ◌*◌, ◌/◌, ◌%◌, ◌<◌, ◌≤◌, ◌==◌, Bool, true, false, List, [], ◌∷◌, ◌++◌, length, get_or, slice_index, set, take, refl, sym, ap, ◌∙◌, arith, inl, inr}
 use Rattle.std.specs.Prelude.{if◌then◌else◌}
-use Rattle.std.proofs.lemmas.Bool.{agree_below_at, eqb-true}
-use Rattle.std.proofs.lemmas.List.{get_or-take, length-append, length-map, length-set, take-append-le, take_all, take_more_set}
+use Rattle.std.specs.Int.{to_be_bytes, w32}
+use Rattle.std.proofs.lemmas.Bool.{agree_below_at, cases_eq, eqb-true, ne_eqb}
+use Rattle.std.proofs.lemmas.List.{get_or-set_other, get_or-set_same, get_or-take, length-append, length-map, take-append-le, take_all, take_more_set}
 use Rattle.fk_aes.specs.declared.expansion.TheConstants.{ROUND_CONSTANTS}
 use Rattle.fk_base.specs.Bytes.{HasBytes}
-use Rattle.fk_aes.specs.Field.{xtime}
+use Rattle.fk_aes.specs.EquivalentInverse.{IsInverseSchedule}
+use Rattle.fk_aes.specs.Field.{◌⊕◌, xor_bytes, xtime}
 use Rattle.fk_aes.specs.KeyExpansion.{addend, first_words, key_expansion, next_word, power_of_x, rot_word, round_constant, sub_word, word_at}
+use Rattle.fk_aes.specs.State.{at_column, inv_mix_column, inv_mix_columns, round_key}
 use Rattle.fk_aes.specs.Substitution.{sub_byte}
-use Rattle.fk_aes.proofs.ByteLists.{HasBytes-append, HasBytes-map, HasBytes-xor_bytes, length-xor_bytes, list-elements, written_out}
+use Rattle.fk_aes.specs.Words.{bytes_of}
+use Rattle.fk_aes.proofs.ByteLists.{HasBytes-append, HasBytes-map, HasBytes-xor_bytes, length-xor_bytes, written_out}
 use Rattle.fk_aes.proofs.FieldLemmas.{xtime-below}
 use Rattle.fk_aes.proofs.SubstitutionLemmas.{sub_byte-below}
+use Rattle.fk_aes.proofs.WordLemmas.{HasBytes-bytes_of, bytes_of-append, round_key-bytes_of, word-xor, word_at-bytes_of}
 
 power_of_x-below : (n : ℕ) → power_of_x n < 256
 unfolding power_of_x
@@ -26,7 +31,7 @@ HasBytes-sub_word a h = HasBytes-map sub_byte 4 a sub_byte-below h
 HasBytes-rot_word : (a : List ℕ) → HasBytes 4 a → HasBytes 4 (rot_word a)
 HasBytes-rot_word a h = written_out 4 _ refl (h.each 1, (h.each 2, (h.each 3, (h.each 0, tt))))
 
-HasBytes-round_constant : (j : ℕ) → HasBytes 4 (round_constant j)
+pub HasBytes-round_constant : (j : ℕ) → HasBytes 4 (round_constant j)
 HasBytes-round_constant j = written_out 4 _ refl (power_of_x-below (j - 1), (omega arith, (omega arith, (omega arith, tt))))
 
 HasBytes-if : (b : Bool) (xs ys : List ℕ) → HasBytes 4 xs → HasBytes 4 ys → HasBytes 4 (if b then xs else ys)
@@ -91,56 +96,92 @@ take-key_expansion key h = take-first_words key 52 h
 
 -- ---- the schedule as it is filled
 
-word_at-take : (w : List ℕ) (i j : ℕ) → j < i → word_at (take (4 * i) w) j ≡ word_at w j
-word_at-take w i j l =
-    rw (
-      get_or-take (4 * i) w (4 * j) 0 (omega arith),
-      get_or-take (4 * i) w (4 * j + 1) 0 (omega arith),
-      get_or-take (4 * i) w (4 * j + 2) 0 (omega arith),
-      get_or-take (4 * i) w (4 * j + 3) 0 (omega arith),
-    ) refl
-
--- a word depends only on those before it
-next_word-take : (w : List ℕ) (i : ℕ) → 8 ≤ i → next_word (take (4 * i) w) i ≡ next_word w i
-unfolding next_word
-next_word-take w i l = rw (word_at-take w i (i - 8) (omega arith), word_at-take w i (i - 1) (omega arith)) refl
-
 first_words-suc : (key : List ℕ) (n : ℕ) → first_words key (suc n) ≡ first_words key n ++ next_word (first_words key n) (8 + n)
 unfolding first_words
 first_words-suc key n = refl
 
+-- a word of the first i
+word_before : (s : List ℕ) (i j : ℕ) → j < i → word_at (bytes_of (take i s)) j ≡ to_be_bytes w32 (get_or s j 0)
+word_before s i j l = word_at-bytes_of (take i s) j ∙ ap (λ (n : ℕ). to_be_bytes w32 n) (get_or-take i s j 0 l)
+
+next_word-is : (s : List ℕ) (i a : ℕ) → 8 ≤ i → to_be_bytes w32 a ≡ addend i (to_be_bytes w32 (get_or s (i - 1) 0))
+    → to_be_bytes w32 (get_or s (i - 8) 0 ⊕ a) ≡ next_word (bytes_of (take i s)) i
+unfolding next_word
+next_word-is s i a l is =
+    let back = word_before s i (i - 8) (omega arith) in
+    let last = word_before s i (i - 1) (omega arith) in
+    word-xor (get_or s (i - 8) 0) a ∙ sym (λ j. xor_bytes (back j) ((ap (addend i) last ∙ sym is) j))
+
+bytes_of-one : (n : ℕ) → bytes_of (n ∷ []) ≡ to_be_bytes w32 n
+unfolding bytes_of
+bytes_of-one n = refl
+
 -- one word more
-pub first_words-more : (key w : List ℕ) (i : ℕ) → 8 ≤ i → take (4 * i) w ≡ first_words key (i - 8)
-    → take (4 * i) w ++ next_word w i ≡ first_words key (i + 1 - 8)
-first_words-more key w i l h =
+pub first_words-more : (key s : List ℕ) (i a : ℕ) → 8 ≤ i → i < length s → to_be_bytes w32 a ≡ addend i (to_be_bytes w32 (get_or s (i - 1) 0))
+    → bytes_of (take i s) ≡ first_words key (i - 8)
+    → bytes_of (take (i + 1) (set s i (get_or s (i - 8) 0 ⊕ a))) ≡ first_words key (i + 1 - 8)
+first_words-more key s i a low high is h =
+    let v : ℕ = get_or s (i - 8) 0 ⊕ a in
     let at : 8 + (i - 8) ≡ i = omega arith in
     let next : i + 1 - 8 ≡ suc (i - 8) = omega arith in
-    rw (next, first_words-suc key (i - 8), at, ← h, next_word-take w i l) refl
+    rw (next, first_words-suc key (i - 8), at, ← h)
+    (ap bytes_of (take_more_set s i v high) ∙ bytes_of-append (take i s) (v ∷ [])
+    ∙ ap (λ (t : List ℕ). bytes_of (take i s) ++ t) (bytes_of-one v ∙ next_word-is s i a low is))
 
--- the element n written, as the last of those up to it
-take-set_last : (xs : List ℕ) (n m y : ℕ) → m ≡ n + 1 → n < length xs → take m (set xs n y) ≡ take n xs ++ y ∷ []
-take-set_last xs n m y e l = rw e (take_more_set xs n y l)
+-- ---- the schedule of the equivalent inverse cipher as it is filled
 
--- a word written after the first i
-pub take-four_sets : (s word : List ℕ) (i : ℕ) → 4 * i + 4 ≤ length s → length word ≡ 4
-    → take (4 * (i + 1)) (set (set (set (set s (4 * i) (get_or word 0 0)) (4 * i + 1) (get_or word 1 0)) (4 * i + 2) (get_or word 2 0)) (4 * i + 3) (get_or word 3 0))
-    ≡ take (4 * i) s ++ word
-take-four_sets s word i l lw =
-    let s1 : List ℕ = set s (4 * i) (get_or word 0 0) in
-    let s2 : List ℕ = set s1 (4 * i + 1) (get_or word 1 0) in
-    let s3 : List ℕ = set s2 (4 * i + 2) (get_or word 2 0) in
-    let l1 : length s1 ≡ length s = length-set s (4 * i) (get_or word 0 0) in
-    let l2 : length s2 ≡ length s1 = length-set s1 (4 * i + 1) (get_or word 1 0) in
-    let l3 : length s3 ≡ length s2 = length-set s2 (4 * i + 2) (get_or word 2 0) in
-    take-set_last s3 (4 * i + 3) (4 * (i + 1)) (get_or word 3 0) (omega arith) (omega arith)
-    ∙ ap (λ (t : List ℕ). t ++ get_or word 3 0 ∷ []) (take-set_last s2 (4 * i + 2) (4 * i + 3) (get_or word 2 0) (omega arith) (omega arith)
-    ∙ ap (λ (t : List ℕ). t ++ get_or word 2 0 ∷ []) (take-set_last s1 (4 * i + 1) (4 * i + 2) (get_or word 1 0) (omega arith) (omega arith)
-    ∙ ap (λ (t : List ℕ). t ++ get_or word 1 0 ∷ []) (take-set_last s (4 * i) (4 * i + 1) (get_or word 0 0) (omega arith) (omega arith))))
-    ∙ joined (take (4 * i) s) (get_or word 0 0) (get_or word 1 0) (get_or word 2 0) (get_or word 3 0)
-    ∙ ap (λ (t : List ℕ). take (4 * i) s ++ t) (sym (list-elements word 4 lw))
-  where
-    joined : (t : List ℕ) (a b c d : ℕ) → t ++ a ∷ [] ++ b ∷ [] ++ c ∷ [] ++ d ∷ [] ≡ t ++ a ∷ b ∷ c ∷ d ∷ []
-    joined t a b c d = simp append_assoc
+-- the words 4 to i - 1 of t are those of s mixed, and the others are the same
+pub record IsMixedBefore (i : ℕ) (s t : List ℕ) : Type 0 where
+  pub mixed : (k : ℕ) → 4 ≤ k → k < i → to_be_bytes w32 (get_or t k 0) ≡ at_column inv_mix_column (to_be_bytes w32 (get_or s k 0)) 0
+  pub front : (k : ℕ) → k < 4 → get_or t k 0 ≡ get_or s k 0
+  pub behind : (k : ℕ) → i ≤ k → get_or t k 0 ≡ get_or s k 0
+
+pub none_mixed : (s : List ℕ) → IsMixedBefore 4 s s
+none_mixed s = record { mixed = λ k low high. absurd (omega arith); front = λ k l. refl; behind = λ k l. refl }
+
+pub one_more_mixed : (s t : List ℕ) (i v : ℕ) → 4 ≤ i → i < length t → to_be_bytes w32 v ≡ at_column inv_mix_column (to_be_bytes w32 (get_or s i 0)) 0
+    → IsMixedBefore i s t → IsMixedBefore (i + 1) s (set t i v)
+one_more_mixed s t i v low high is before = record {
+  mixed = λ k l m. elim (cases_eq k i) [
+    | inl e ↦ rw (e, get_or-set_same t i v 0 high) is
+    | inr ne ↦ rw (get_or-set_other t i k v 0 ne) (before.mixed k l (omega arith))
+  ];
+  front = λ k l. get_or-set_other t i k v 0 (omega arith) ∙ before.front k l;
+  behind = λ k l. get_or-set_other t i k v 0 (omega arith) ∙ before.behind k (omega arith);
+}
+
+four_mixed : (a b c d p q r t : ℕ) → to_be_bytes w32 a ≡ at_column inv_mix_column (to_be_bytes w32 p) 0 → to_be_bytes w32 b ≡ at_column inv_mix_column (to_be_bytes w32 q) 0
+    → to_be_bytes w32 c ≡ at_column inv_mix_column (to_be_bytes w32 r) 0 → to_be_bytes w32 d ≡ at_column inv_mix_column (to_be_bytes w32 t) 0
+    → bytes_of (a ∷ b ∷ c ∷ d ∷ []) ≡ inv_mix_columns (bytes_of (p ∷ q ∷ r ∷ t ∷ []))
+unfolding bytes_of inv_mix_columns inv_mix_column
+four_mixed a b c d p q r t ea eb ec ed = λ i. ea i ++ (eb i ++ (ec i ++ (ed i ++ [])))
+
+module _ (s t : List ℕ) (ls : length s ≡ 60) (lt : length t ≡ 60) (is : IsMixedBefore 56 s t) where
+  unmixed_key : (n : ℕ) → n < 15 → ((k : ℕ) → 4 * n ≤ k → k < 4 * n + 4 → get_or t k 0 ≡ get_or s k 0) → round_key (bytes_of t) n ≡ round_key (bytes_of s) n
+  unmixed_key n l same =
+      let word = λ (k : ℕ) (low : 4 * n ≤ k) (high : k < 4 * n + 4). same k low high in
+      round_key-bytes_of t n l lt
+      ∙ (λ i. bytes_of (word (4 * n) (omega arith) (omega arith) i ∷ word (4 * n + 1) (omega arith) (omega arith) i ∷ word (4 * n + 2) (omega arith) (omega arith) i ∷ word (4 * n + 3) (omega arith) (omega arith) i ∷ []))
+      ∙ sym (round_key-bytes_of s n l ls)
+
+  mixed_key : (n : ℕ) → 0 < n → n < 14 → round_key (bytes_of t) n ≡ inv_mix_columns (round_key (bytes_of s) n)
+  mixed_key n low high =
+      let word = λ (k : ℕ) (l : 4 ≤ k) (h : k < 56). is.mixed k l h in
+      round_key-bytes_of t n (omega arith) lt
+      ∙ four_mixed _ _ _ _ _ _ _ _ (word (4 * n) (omega arith) (omega arith)) (word (4 * n + 1) (omega arith) (omega arith)) (word (4 * n + 2) (omega arith) (omega arith)) (word (4 * n + 3) (omega arith) (omega arith))
+      ∙ sym (ap inv_mix_columns (round_key-bytes_of s n (omega arith) ls))
+
+  pub all_mixed : IsInverseSchedule (bytes_of s) (bytes_of t)
+  all_mixed = record {
+    size = (HasBytes-bytes_of t).size ∙ ap (λ (n : ℕ). 4 * n) lt;
+    keys = λ n l. elim (cases_eq n 0) [
+      | inl e ↦ rw e (unmixed_key 0 (omega arith) (λ k low high. is.front k (omega arith)))
+      | inr ne ↦ elim (cases_eq n 14) [
+        | inl e ↦ rw e (unmixed_key 14 (omega arith) (λ k low high. is.behind k (omega arith)))
+        | inr nf ↦ rw (ne_eqb n 0 ne, ne_eqb n 14 nf) (mixed_key n (omega arith) (omega arith))
+      ]
+    ];
+  }
 
 -- the first bytes of the round constants that are used, as the code has them
 pub round_constant-entry : (i : ℕ) → i < 7 → slice_index ROUND_CONSTANTS i ≡ power_of_x i

@@ -3,3 +3,5 @@ pub mod Substitution
 pub mod State
 pub mod KeyExpansion
 pub mod Cipher
+pub mod Words
+pub mod EquivalentInverse

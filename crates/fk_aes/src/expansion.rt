@@ -1,64 +1,46 @@
-// The key expansion (FIPS 197, section 5.2).
+// The key expansion (FIPS 197, section 5.2), and the schedule of the equivalent inverse cipher (section 5.3.5).
 
-ghost use Rattle.std.specs.Prelude.{◌≡◌, ◌≤◌, ◌<◌, ◌+◌, ◌*◌, ◌++◌, ◌/◌, length, take, drop};
-ghost use Rattle.fk_aes.specs.Field.{xor_bytes};
-ghost use Rattle.fk_aes.specs.KeyExpansion.{addend, key_expansion, next_word, rot_word, round_constant, sub_word, word_at};
+ghost use Rattle.std.specs.Prelude.{◌≡◌, ◌≤◌, ◌<◌, ◌-◌, ◌*◌, ◌/◌, ◌++◌, take, get_or, length};
+ghost use Rattle.std.specs.Int.{to_be_bytes, w32};
+ghost use Rattle.fk_aes.specs.EquivalentInverse.{IsInverseSchedule};
+ghost use Rattle.fk_aes.specs.KeyExpansion.{addend, key_expansion, rot_word, round_constant, sub_word};
+ghost use Rattle.fk_aes.specs.State.{at_column, inv_mix_column};
+ghost use Rattle.fk_aes.specs.Words.{bytes_of};
 
-use crate::substitution::sub_byte;
+use crate::column::{inv_sub_mix_column, sub_column};
+use crate::state::word_at;
 
 // x^0, x^1, .. in the field: the first bytes of the round constants Rcon[1], Rcon[2], ..
 const ROUND_CONSTANTS: [u8; 7] = [0x01, 0x02, 0x04, 0x08, 0x10, 0x20, 0x40];
 
-fn word_at(schedule: &[u8; 240], i: usize) -> [u8; 4]
-    requires { i < 60 }
-    ensures { result ≡ word_at schedule.now i }
+fn rot_word(word: u32) -> u32
+    ensures { to_be_bytes w32 result ≡ rot_word (to_be_bytes w32 word) }
 {
-    [
-        schedule[4 * i],
-        schedule[4 * i + 1],
-        schedule[4 * i + 2],
-        schedule[4 * i + 3],
-    ]
+    let [a, b, c, d] = word.to_be_bytes();
+    u32::from_be_bytes([b, c, d, a])
 }
 
-fn xor_words(a: [u8; 4], b: [u8; 4]) -> [u8; 4]
-    ensures { result ≡ xor_bytes a b }
+fn sub_word(word: u32) -> u32
+    ensures { to_be_bytes w32 result ≡ sub_word (to_be_bytes w32 word) }
 {
-    [a[0] ^ b[0], a[1] ^ b[1], a[2] ^ b[2], a[3] ^ b[3]]
+    sub_column(word, word, word, word)
 }
 
-fn rot_word(word: [u8; 4]) -> [u8; 4]
-    ensures { result ≡ rot_word word }
-{
-    [word[1], word[2], word[3], word[0]]
-}
-
-fn sub_word(word: [u8; 4]) -> [u8; 4]
-    ensures { result ≡ sub_word word }
-{
-    [
-        sub_byte(word[0]),
-        sub_byte(word[1]),
-        sub_byte(word[2]),
-        sub_byte(word[3]),
-    ]
-}
-
-fn round_constant(j: usize) -> [u8; 4]
+fn round_constant(j: usize) -> u32
     requires low { 1 ≤ j }
     requires high { j < 8 }
-    ensures { result ≡ round_constant j }
+    ensures { to_be_bytes w32 result ≡ round_constant j }
 {
-    [ROUND_CONSTANTS[j - 1], 0, 0, 0]
+    u32::from_be_bytes([ROUND_CONSTANTS[j - 1], 0, 0, 0])
 }
 
-fn addend(i: usize, word: [u8; 4]) -> [u8; 4]
+fn addend(i: usize, word: u32) -> u32
     requires low { 8 ≤ i }
     requires high { i < 60 }
-    ensures { result ≡ addend i word }
+    ensures { to_be_bytes w32 result ≡ addend i (to_be_bytes w32 word) }
 {
     if i % 8 == 0 {
-        xor_words(sub_word(rot_word(word)), round_constant(i / 8))
+        sub_word(rot_word(word)) ^ round_constant(i / 8)
     } else if i % 8 == 4 {
         sub_word(word)
     } else {
@@ -66,36 +48,48 @@ fn addend(i: usize, word: [u8; 4]) -> [u8; 4]
     }
 }
 
-fn next_word(schedule: &[u8; 240], i: usize) -> [u8; 4]
-    requires low { 8 ≤ i }
-    requires high { i < 60 }
-    ensures { result ≡ next_word schedule.now i }
+fn key_words(key: &[u8; 32]) -> [u32; 8]
+    ensures { bytes_of result ≡ key.now }
 {
-    xor_words(
-        word_at(schedule, i - 8),
-        addend(i, word_at(schedule, i - 1)),
-    )
-}
-
-fn put_word(schedule: &mut [u8; 240], i: usize, word: [u8; 4])
-    requires { i < 60 }
-    ensures { take (4 * (i + 1)) schedule.new ≡ take (4 * i) schedule.old ++ word }
-{
-    schedule[4 * i] = word[0];
-    schedule[4 * i + 1] = word[1];
-    schedule[4 * i + 2] = word[2];
-    schedule[4 * i + 3] = word[3];
+    [
+        word_at(key, 0),
+        word_at(key, 1),
+        word_at(key, 2),
+        word_at(key, 3),
+        word_at(key, 4),
+        word_at(key, 5),
+        word_at(key, 6),
+        word_at(key, 7),
+    ]
 }
 
 /// The key schedule of a key, word after word.
-pub(crate) fn expand(key: &[u8; 32]) -> [u8; 240]
-    ensures { result ≡ key_expansion key.now }
+pub(crate) fn expand(key: &[u8; 32]) -> [u32; 60]
+    ensures { bytes_of result ≡ key_expansion key.now }
 {
-    let mut schedule = [0; 240];
-    schedule[..32].copy_from_slice(key);
+    let mut schedule = [0; 60];
+    schedule[..8].copy_from_slice(&key_words(key));
     for i in 8..60 {
-        let word = next_word(&schedule, i);
-        put_word(&mut schedule, i, word);
+        schedule[i] = schedule[i - 8] ^ addend(i, schedule[i - 1]);
     }
     schedule
+}
+
+// InvMixColumns of one column: the substitution undoes the inverse one, which the tables have before the mixing.
+fn inv_mix_word(word: u32) -> u32
+    ensures { to_be_bytes w32 result ≡ at_column inv_mix_column (to_be_bytes w32 word) 0 }
+{
+    let word = sub_word(word);
+    inv_sub_mix_column(word, word, word, word)
+}
+
+/// The schedule of the equivalent inverse cipher, from that of the cipher.
+pub(crate) fn inverse_schedule(schedule: &[u32; 60]) -> [u32; 60]
+    ensures { IsInverseSchedule (bytes_of schedule.now) (bytes_of result) }
+{
+    let mut inverse = *schedule;
+    for i in 4..56 {
+        inverse[i] = inv_mix_word(schedule[i]);
+    }
+    inverse
 }

@@ -6,8 +6,8 @@
 //! Start at `key` for the three public calls, and in specs/ at `Cipher`, which is to be read beside the standard.
 #![tactic(auto)]
 
+mod column;
 mod expansion;
-mod field;
 mod key;
 mod laws;
 mod rounds;

@@ -1,41 +1,32 @@
 ghost use Rattle.std.specs.Prelude.{◌≡◌};
-ghost use Rattle.fk_aes.specs.Cipher.{cipher_by, decipher_by};
+ghost use Rattle.fk_aes.specs.Cipher.{cipher_by};
+ghost use Rattle.fk_aes.specs.EquivalentInverse.{equivalent_decipher_by};
+ghost use Rattle.fk_aes.specs.Words.{bytes_of};
 
 use crate::state::{
-    add_round_key, inv_mix_columns, inv_shift_rows, inv_sub_bytes, mix_columns, shift_rows,
-    sub_bytes,
+    add_round_key, block_of, columns_of, inv_sub_shift, inv_sub_shift_mix, sub_shift, sub_shift_mix,
 };
 
 /// Applies the cipher with a key schedule (FIPS 197, section 5.1).
-pub(crate) fn encrypt_by(schedule: &[u8; 240], block: &mut [u8; 16])
-    ensures { block.new ≡ cipher_by schedule.now block.old }
+pub(crate) fn encrypt_by(schedule: &[u32; 60], block: &mut [u8; 16])
+    ensures { block.new ≡ cipher_by (bytes_of schedule.now) block.old }
 {
-    add_round_key(block, schedule, 0);
+    let mut columns = add_round_key(columns_of(block), schedule, 0);
     for round in 1..14 {
-        sub_bytes(block);
-        shift_rows(block);
-        mix_columns(block);
-        add_round_key(block, schedule, round);
+        columns = add_round_key(sub_shift_mix(columns), schedule, round);
     }
-    sub_bytes(block);
-    shift_rows(block);
     // Round 14 has no MixColumns.
-    add_round_key(block, schedule, 14);
+    *block = block_of(add_round_key(sub_shift(columns), schedule, 14));
 }
 
-/// Applies the inverse cipher with a key schedule (FIPS 197, section 5.3).
-pub(crate) fn decrypt_by(schedule: &[u8; 240], block: &mut [u8; 16])
-    ensures { block.new ≡ decipher_by schedule.now block.old }
+/// Applies the equivalent inverse cipher with its own key schedule (FIPS 197, section 5.3.5).
+pub(crate) fn decrypt_by(schedule: &[u32; 60], block: &mut [u8; 16])
+    ensures { block.new ≡ equivalent_decipher_by (bytes_of schedule.now) block.old }
 {
-    add_round_key(block, schedule, 14);
+    let mut columns = add_round_key(columns_of(block), schedule, 14);
     for round in (1..14).rev() {
-        inv_shift_rows(block);
-        inv_sub_bytes(block);
-        add_round_key(block, schedule, round);
-        inv_mix_columns(block);
+        columns = add_round_key(inv_sub_shift_mix(columns), schedule, round);
     }
-    inv_shift_rows(block);
-    inv_sub_bytes(block);
     // The last round has no InvMixColumns.
-    add_round_key(block, schedule, 0);
+    *block = block_of(add_round_key(inv_sub_shift(columns), schedule, 0));
 }

@@ -1,116 +1,120 @@
-// The transformations of the state, in place (FIPS 197, sections 5.1 and 5.3).
+// The state as four words, one for each column, and what a round makes of it (FIPS 197, sections 5.1 and 5.3.5).
 
-ghost use Rattle.std.specs.Prelude.{◌≡◌, ◌<◌, length};
-ghost use Rattle.fk_aes.specs.Field.{xor_bytes};
-ghost use Rattle.fk_aes.specs.State.{add_round_key, at_column, inv_mix_column, inv_mix_columns, inv_shift_rows, inv_sub_bytes, mix_column, mix_columns, shift_rows, sub_bytes};
+ghost use Rattle.std.specs.Prelude.{◌≡◌, ◌<◌, ◌≤◌, ◌+◌, ◌*◌, length};
+ghost use Rattle.std.specs.Int.{to_be_bytes, w32};
+ghost use Rattle.fk_aes.specs.KeyExpansion.{word_at};
+ghost use Rattle.fk_aes.specs.State.{add_round_key, inv_mix_columns, inv_shift_rows, inv_sub_bytes, mix_columns, shift_rows, sub_bytes};
+ghost use Rattle.fk_aes.specs.Words.{bytes_of};
 
-use crate::field::{multiples, xtime};
-use crate::substitution::{inv_sub_byte, sub_byte};
+use crate::column::{inv_sub_column, inv_sub_mix_column, sub_column, sub_mix_column};
 
-pub(crate) fn sub_bytes(block: &mut [u8; 16])
-    ensures { block.new ≡ sub_bytes block.old }
+/// Word i of the bytes.
+#[inline(always)]
+pub(crate) fn word_at(bytes: &[u8], i: usize) -> u32
+    requires { 4 * i + 4 ≤ length bytes.now }
+    ensures { to_be_bytes w32 result ≡ word_at bytes.now i }
 {
-    for byte in block.iter_mut() {
-        *byte = sub_byte(*byte);
-    }
+    u32::from_be_bytes([
+        bytes[4 * i],
+        bytes[4 * i + 1],
+        bytes[4 * i + 2],
+        bytes[4 * i + 3],
+    ])
 }
 
-pub(crate) fn inv_sub_bytes(block: &mut [u8; 16])
-    ensures { block.new ≡ inv_sub_bytes block.old }
+/// The columns of a block.
+#[inline(always)]
+pub(crate) fn columns_of(block: &[u8; 16]) -> [u32; 4]
+    ensures { bytes_of result ≡ block.now }
 {
-    for byte in block.iter_mut() {
-        *byte = inv_sub_byte(*byte);
-    }
-}
-
-pub(crate) fn shift_rows(block: &mut [u8; 16])
-    ensures { block.new ≡ shift_rows block.old }
-{
-    let s = *block;
-    *block = [
-        s[0], s[5], s[10], s[15], s[4], s[9], s[14], s[3], s[8], s[13], s[2], s[7], s[12], s[1],
-        s[6], s[11],
-    ];
-}
-
-pub(crate) fn inv_shift_rows(block: &mut [u8; 16])
-    ensures { block.new ≡ inv_shift_rows block.old }
-{
-    let s = *block;
-    *block = [
-        s[0], s[13], s[10], s[7], s[4], s[1], s[14], s[11], s[8], s[5], s[2], s[15], s[12], s[9],
-        s[6], s[3],
-    ];
-}
-
-fn mix_column(column: [u8; 4]) -> [u8; 4]
-    ensures { result ≡ at_column mix_column column 0 }
-{
-    let [a, b, c, d] = column;
-    let [a2, b2, c2, d2] = [xtime(a), xtime(b), xtime(c), xtime(d)];
     [
-        a2 ^ (b2 ^ b) ^ c ^ d,
-        a ^ b2 ^ (c2 ^ c) ^ d,
-        a ^ b ^ c2 ^ (d2 ^ d),
-        (a2 ^ a) ^ b ^ c ^ d2,
+        word_at(block, 0),
+        word_at(block, 1),
+        word_at(block, 2),
+        word_at(block, 3),
     ]
 }
 
-pub(crate) fn mix_columns(block: &mut [u8; 16])
-    ensures { block.new ≡ mix_columns block.old }
+/// The block of the columns.
+#[inline(always)]
+pub(crate) fn block_of(columns: [u32; 4]) -> [u8; 16]
+    ensures { result ≡ bytes_of columns }
 {
-    let s = *block;
-    let [a0, a1, a2, a3] = mix_column([s[0], s[1], s[2], s[3]]);
-    let [b0, b1, b2, b3] = mix_column([s[4], s[5], s[6], s[7]]);
-    let [c0, c1, c2, c3] = mix_column([s[8], s[9], s[10], s[11]]);
-    let [d0, d1, d2, d3] = mix_column([s[12], s[13], s[14], s[15]]);
-    *block = [
-        a0, a1, a2, a3, b0, b1, b2, b3, c0, c1, c2, c3, d0, d1, d2, d3,
-    ];
-}
-
-fn inv_mix_column(column: [u8; 4]) -> [u8; 4]
-    ensures { result ≡ at_column inv_mix_column column 0 }
-{
-    let [a, b, c, d] = column;
-    let [a9, ab, ad, ae] = multiples(a);
-    let [b9, bb, bd, be] = multiples(b);
-    let [c9, cb, cd, ce] = multiples(c);
-    let [d9, db, dd, de] = multiples(d);
+    let [a, b, c, d] = columns;
+    let [a0, a1, a2, a3] = a.to_be_bytes();
+    let [b0, b1, b2, b3] = b.to_be_bytes();
+    let [c0, c1, c2, c3] = c.to_be_bytes();
+    let [d0, d1, d2, d3] = d.to_be_bytes();
     [
-        ae ^ bb ^ cd ^ d9,
-        a9 ^ be ^ cb ^ dd,
-        ad ^ b9 ^ ce ^ db,
-        ab ^ bd ^ c9 ^ de,
+        a0, a1, a2, a3, b0, b1, b2, b3, c0, c1, c2, c3, d0, d1, d2, d3,
     ]
 }
 
-pub(crate) fn inv_mix_columns(block: &mut [u8; 16])
-    ensures { block.new ≡ inv_mix_columns block.old }
-{
-    let s = *block;
-    let [a0, a1, a2, a3] = inv_mix_column([s[0], s[1], s[2], s[3]]);
-    let [b0, b1, b2, b3] = inv_mix_column([s[4], s[5], s[6], s[7]]);
-    let [c0, c1, c2, c3] = inv_mix_column([s[8], s[9], s[10], s[11]]);
-    let [d0, d1, d2, d3] = inv_mix_column([s[12], s[13], s[14], s[15]]);
-    *block = [
-        a0, a1, a2, a3, b0, b1, b2, b3, c0, c1, c2, c3, d0, d1, d2, d3,
-    ];
-}
-
-/// Adds the bytes of a key to the bytes of a block.
-fn xor_bytes(block: &mut [u8; 16], key: &[u8])
-    requires { length key.now ≡ 16 }
-    ensures { block.new ≡ xor_bytes block.old key.now }
-{
-    for (i, byte) in block.iter_mut().enumerate() {
-        *byte ^= key[i];
-    }
-}
-
-pub(crate) fn add_round_key(block: &mut [u8; 16], schedule: &[u8; 240], round: usize)
+#[inline(always)]
+pub(crate) fn add_round_key(columns: [u32; 4], schedule: &[u32; 60], round: usize) -> [u32; 4]
     requires { round < 15 }
-    ensures { block.new ≡ add_round_key block.old schedule.now round }
+    ensures { bytes_of result ≡ add_round_key (bytes_of columns) (bytes_of schedule.now) round }
 {
-    xor_bytes(block, &schedule[16 * round..16 * round + 16]);
+    [
+        columns[0] ^ schedule[4 * round],
+        columns[1] ^ schedule[4 * round + 1],
+        columns[2] ^ schedule[4 * round + 2],
+        columns[3] ^ schedule[4 * round + 3],
+    ]
+}
+
+/// SubBytes, ShiftRows and MixColumns.
+#[inline(always)]
+pub(crate) fn sub_shift_mix(columns: [u32; 4]) -> [u32; 4]
+    ensures { bytes_of result ≡ mix_columns (shift_rows (sub_bytes (bytes_of columns))) }
+{
+    let [a, b, c, d] = columns;
+    [
+        sub_mix_column(a, b, c, d),
+        sub_mix_column(b, c, d, a),
+        sub_mix_column(c, d, a, b),
+        sub_mix_column(d, a, b, c),
+    ]
+}
+
+/// SubBytes and ShiftRows.
+#[inline(always)]
+pub(crate) fn sub_shift(columns: [u32; 4]) -> [u32; 4]
+    ensures { bytes_of result ≡ shift_rows (sub_bytes (bytes_of columns)) }
+{
+    let [a, b, c, d] = columns;
+    [
+        sub_column(a, b, c, d),
+        sub_column(b, c, d, a),
+        sub_column(c, d, a, b),
+        sub_column(d, a, b, c),
+    ]
+}
+
+/// InvSubBytes, InvShiftRows and InvMixColumns.
+#[inline(always)]
+pub(crate) fn inv_sub_shift_mix(columns: [u32; 4]) -> [u32; 4]
+    ensures { bytes_of result ≡ inv_mix_columns (inv_shift_rows (inv_sub_bytes (bytes_of columns))) }
+{
+    let [a, b, c, d] = columns;
+    [
+        inv_sub_mix_column(a, d, c, b),
+        inv_sub_mix_column(b, a, d, c),
+        inv_sub_mix_column(c, b, a, d),
+        inv_sub_mix_column(d, c, b, a),
+    ]
+}
+
+/// InvSubBytes and InvShiftRows.
+#[inline(always)]
+pub(crate) fn inv_sub_shift(columns: [u32; 4]) -> [u32; 4]
+    ensures { bytes_of result ≡ inv_shift_rows (inv_sub_bytes (bytes_of columns)) }
+{
+    let [a, b, c, d] = columns;
+    [
+        inv_sub_column(a, d, c, b),
+        inv_sub_column(b, a, d, c),
+        inv_sub_column(c, b, a, d),
+        inv_sub_column(d, c, b, a),
+    ]
 }

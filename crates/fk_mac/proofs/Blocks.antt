@@ -1,5 +1,5 @@
 -- The key's block, and the two hashes of an HMAC over it.
-use Rattle.std.proofs.Common.{◌≡◌, ℕ, ◌+◌, ◌-◌, ◌<◌, ◌≤◌, nat_lt, true, false, List, [], ◌++◌, length, take, drop, replicate, bit_xor, slice_index, refl, sym, ap, ◌∙◌, arith, append_assoc, append-nil}
+use Rattle.std.proofs.Common.{◌≡◌, ℕ, ◌+◌, ◌-◌, ◌<◌, ◌≤◌, nat_lt, true, false, List, [], ◌++◌, length, take, drop, replicate, bit_xor, slice_index, refl, sym, ap, ◌∙◌, arith, append-nil}
 use Rattle.std.proofs.lemmas.List.{take-map, take-replicate, drop-replicate, get_or-map, length-map}
 use Rattle.std.proofs.Math.Seq.{take-append-add}
 use Rattle.std.proofs.lemmas.Grind.{same_number_lists}
@@ -59,14 +59,14 @@ short_key_block kind key filled fits e =
     let s : key ≡ short_key kind key = rw t refl in
     rw e (front_block kind key key s fits)
 
+-- the front of the masked array is the masked block
+pub masked_front : (kind : HashKind) (key block bytes : List ℕ) (pad n : ℕ) → n ≡ block_len kind → take (block_len kind) block ≡ block_key kind key
+    → bytes ≡ masked pad block → take n bytes ≡ masked pad (block_key kind key)
+masked_front kind key block bytes pad n en eb em = rw (em, en, take-map (λ b. bit_xor b pad) (block_len kind) block, eb) refl
+
 -- the two hashes
-pub hmac_is : (kind : HashKind) (key head tail block inside outside inner outer : List ℕ) (n : ℕ) → n ≡ block_len kind → take (block_len kind) block ≡ block_key kind key
-    → inside ≡ masked 0x36 block → outside ≡ masked 0x5c block
-    → inner ≡ hash_of kind (take n inside ++ head ++ tail) → outer ≡ hash_of kind (take n outside ++ inner ++ [])
-    → outer ≡ hmac kind key (head ++ tail)
+pub hmac_is : (kind : HashKind) (key message inner slice outer : List ℕ) → inner ≡ hash_of kind (masked 0x36 (block_key kind key) ++ message) → slice ≡ inner
+    → outer ≡ hash_of kind (masked 0x5c (block_key kind key) ++ (slice ++ [])) → outer ≡ hmac kind key message
 unfolding hmac
-hmac_is kind key head tail block inside outside inner outer n en eb ei eo inner_is outer_is =
-    let mi : take n inside ≡ masked 0x36 (block_key kind key) = rw (ei, en, take-map (λ b. bit_xor b 0x36) (block_len kind) block, eb) refl in
-    let mo : take n outside ≡ masked 0x5c (block_key kind key) = rw (eo, en, take-map (λ b. bit_xor b 0x5c) (block_len kind) block, eb) refl in
-    let i : inner ≡ hash_of kind (masked 0x36 (block_key kind key) ++ (head ++ tail)) = inner_is ∙ ap (λ m. hash_of kind m) (append_assoc (take n inside) head tail ∙ ap (λ m. m ++ (head ++ tail)) mi) in
-    outer_is ∙ ap (λ m. hash_of kind m) (append-nil (take n outside ++ inner) ∙ ap (λ m. m ++ inner) mo ∙ ap (λ m. masked 0x5c (block_key kind key) ++ m) i)
+hmac_is kind key message inner slice outer inner_is slice_is outer_is =
+    outer_is ∙ ap (λ m. hash_of kind (masked 0x5c (block_key kind key) ++ m)) (append-nil slice ∙ slice_is ∙ inner_is)

@@ -4,16 +4,18 @@
 //! It is for the scripts of `bench/`, where no program for users reaches the primitive alone. It reads no clock, so it
 //! measures nothing itself, and it is not installed.
 //!
-//! Start at `repeat` and `packets`, whose contracts say what is repeated.
+//! Start at `repeat` and `packets`, whose contracts say what is repeated, and at `closes`.
 #![tactic(auto)]
 
+mod closes;
 mod packets;
 mod repeat;
 
-use fk_base::{Bytes, Keys, NoMemory, read_decimal};
+use closes::closes_attempted;
+use fk_base::{Bytes, Keys, Moment, NoMemory, read_decimal};
 use fk_packet::PacketFault;
 use packets::{DATAGRAM, last_opened, last_packed, other_keys, right_keys};
-use repeat::{decrypted, encrypted, last_digest, last_mac, last_md5};
+use repeat::{decrypted, encrypted, last_digest, last_keyed_mac, last_mac, last_md5};
 use std::alloc::Global;
 use std::marker::Brand;
 use std::process::ExitCode;
@@ -43,7 +45,9 @@ fn run(rt: &HostRuntime) -> io::Result<bool> {
             }
         }
     }
-    println!(rt; "usage: fk_speed encrypt|decrypt|mac|sha256|md5|open|refuse|pack COUNT")?;
+    println!(rt;
+        "usage: fk_speed encrypt|decrypt|mac|keyed|sha256|md5|open|refuse|pack|turn|turn-idle|turn-256|turn-4096 COUNT"
+    )?;
     Ok(false)
 }
 
@@ -53,11 +57,16 @@ fn last_result(alloc: Global, name: &str, count: u64) -> Result<Option<String>, 
         "encrypt" => Ok(Some(hex::encode(alloc, &encrypted(count))?)),
         "decrypt" => Ok(Some(hex::encode(alloc, &decrypted::<Brand>(Blank::new(1), count))?)),
         "mac" => Ok(Some(hex::encode(alloc, last_mac(count).as_slice())?)),
+        "keyed" => Ok(Some(hex::encode(alloc, last_keyed_mac(count).as_slice())?)),
         "sha256" => Ok(Some(hex::encode(alloc, &last_digest(count))?)),
         "md5" => Ok(Some(hex::encode(alloc, &last_md5(count))?)),
         "open" => opened(alloc, &right_keys(alloc)?, count),
         "refuse" => opened(alloc, &other_keys(alloc)?, count),
         "pack" => packed(alloc, &right_keys(alloc)?, count),
+        "turn" => attempted(alloc, 0, count, 1000),
+        "turn-idle" => attempted(alloc, 4096, count, 999),
+        "turn-256" => attempted(alloc, 256, count, 1000),
+        "turn-4096" => attempted(alloc, 4096, count, 1000),
         _ => Ok(None),
     }
 }
@@ -83,5 +92,21 @@ fn packed(alloc: Global, keys: &Keys, count: u64) -> Result<Option<String>, NoMe
         }
         Err(PacketFault::NoMemory) => Err(NoMemory),
         Ok(_) | Err(_) => Ok(None),
+    }
+}
+
+/// How many closes were attempted in so many turns at this second, of so many records whose closes are due at second 1000.
+fn attempted(
+    alloc: Global,
+    records: u64,
+    turns: u64,
+    second: u64,
+) -> Result<Option<String>, NoMemory> {
+    match Moment::new(second) {
+        Some(moment) => {
+            let attempted = closes_attempted(alloc, records, turns, moment)?;
+            Ok(Some(hex::encode(alloc, &attempted.to_be_bytes())?))
+        }
+        None => Ok(None),
     }
 }

@@ -7,7 +7,7 @@ ghost use Rattle.sha2.specs.Sha256.{sha256};
 
 use fk_aes::Key256;
 use fk_base::{HashKind, Steps};
-use fk_mac::{MacBuf, mac};
+use fk_mac::{MacBuf, MacKey, mac};
 use md5::Md5;
 use sha2::Sha256;
 use std::sync::ledger::{Blank, Ledger};
@@ -73,6 +73,20 @@ pub fn last_mac(count: u64) -> MacBuf
             &BEHIND_CODE,
             &mut next,
         );
+        code = next;
+    }
+    code
+}
+
+/// The same by a key that is prepared once.
+pub fn last_keyed_mac(count: u64) -> MacBuf
+    ensures { result ≡ iterate (λ code. hmac HashKind.Sha256 KEY (code ++ BEHIND_CODE)) count [] }
+{
+    let key = MacKey::new(HashKind::Sha256, &KEY);
+    let mut code = MacBuf::new();
+    for _ in 0..count {
+        let mut next = MacBuf::new();
+        key.mac(code.as_slice(), &BEHIND_CODE, &mut next);
         code = next;
     }
     code

@@ -1,9 +1,6 @@
-use Rattle.std.proofs.Common.{◌≡◌, ◌+◌, ◌-◌, ◌*◌, refl, arith}
-use Rattle.fk_aes.specs.State.{add_round_key}
+use Rattle.std.proofs.Common.{arith, rules}
+use Rattle.fk_aes.proofs.WordLemmas.{add_round_key-words}
 use Rattle.fk_aes.proofs.state.add_round_key.Goals as goal
 
 pub returns : goal.returns
-unfolding add_round_key
-returns c =
-    let size : 16 * c.args.round + 16 - 16 * c.args.round ≡ 16 = omega arith in
-    rw (c.xor_bytes.ensures, size) refl
+returns c = add_round_key-words c.args.columns c.args.schedule.now c.args.round (omega arith) (search rules) (search rules)

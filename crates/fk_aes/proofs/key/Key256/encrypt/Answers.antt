@@ -6,4 +6,4 @@ use Rattle.fk_aes.proofs.key.Key256.encrypt.Goals as goal
 pub returns : goal.returns
 unfolding cipher
 returns c =
-    c.encrypt_by.ensures ∙ ap (λ (w : List ℕ). cipher_by w c.args.block.now) (c.self.invariant ∙ ap key_expansion c.self.view_is)
+    c.encrypt_by.ensures ∙ ap (λ (w : List ℕ). cipher_by w c.args.block.now) (c.self.invariant.expanded ∙ ap key_expansion c.self.view_is)

@@ -1,6 +1,0 @@
-use Rattle.std.proofs.Common.{◌≡◌, ◌++◌, map, take, drop}
-use Rattle.fk_aes.specs.Substitution.{inv_sub_byte}
-use Rattle.fk_aes.proofs.state.inv_sub_bytes.Given as goal
-
-abbrev pub invariant-loop-byte : goal.invariant-loop-byte
-invariant-loop-byte l = l.block ≡ map inv_sub_byte (take l.byte-index l.fn.block) ++ drop l.byte-index l.fn.block

@@ -1,5 +1,0 @@
-use Rattle.fk_mac.proofs.Blocks.{filled}
-use Rattle.fk_mac.proofs.hmac.zero_filled.Goals as goal
-
-pub returns : goal.returns
-returns c = filled c.args.bytes.now _ c.copy_from_slice.ensures.after
