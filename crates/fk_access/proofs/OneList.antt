@@ -1,5 +1,5 @@
 -- A text says one list of stanzas at most.
-use Rattle.std.proofs.Common.{◌≡◌, ℕ, ◌+◌, ◌<◌, ◌≤◌, ◌^◌, true, false, List, [], ◌∷◌, ◌++◌, length, Option, Some, None, refl, sym, ◌∙◌, ap, subst, inr, arith}
+use Rattle.std.proofs.Common.{◌≡◌, ℕ, ◌<◌, ◌≤◌, ◌^◌, List, [], ◌∷◌, length, Option, Some, None, refl, sym, ◌∙◌, ap, subst, inr, arith}
 use Rattle.std.proofs.Math.Bridge.{le_prop}
 use Rattle.std.specs.Prelude.{IfSome, unwrap_or}
 use Rattle.std.specs.List.{AllZip}
@@ -17,15 +17,17 @@ use Rattle.fk_base.proofs.FoundValues.{ip_in-ip_text, number_in-decimal}
 use Rattle.fk_base.proofs.Joined.{parts_at-join, Lacks-decimal}
 use Rattle.fk_base.proofs.NetTexts.{Lacks-ip_text, Net4-same}
 use Rattle.fk_lines.specs.Lines.{NumberedLine, Setting}
-use Rattle.fk_subst.specs.Template.{IsTemplateOf}
 use Rattle.fk_subst.specs.declared.piece.Piece.{Piece}
 use Rattle.fk_subst.proofs.Pieces.{one_template}
 use Rattle.fk_subst.specs.Template.{words_in}
+use Rattle.fk_values.specs.Settings.{settings_of}
+use Rattle.fk_access.specs.declared.key_ring.TimedKeys.{TimedKeys}
 use Rattle.fk_access.specs.declared.sources.Sources.{Sources}
 use Rattle.fk_access.specs.declared.sources.Sources.TheVariants.{Any, Nets}
 use Rattle.fk_access.specs.declared.stanza.Stanza.{Stanza}
-use Rattle.fk_access.specs.AccessFault.{access_stanzas, given_by_lines}
-use Rattle.fk_access.specs.ReadsAccess.{GivesCommand, GivesSources, IsGiven, IsStanzaOf, ReadsAccess}
+use Rattle.fk_access.specs.AccessFault.{access_stanzas}
+use Rattle.fk_access.specs.KeyPairs.{given_behind, key_pairs}
+use Rattle.fk_access.specs.ReadsAccess.{GivesCommand, GivesSources, IsGiven, IsPairOf, IsStanzaOf, ReadsAccess}
 use Rattle.fk_access.specs.SourcesOf.{AreSourcesOf}
 
 -- a net
@@ -119,13 +121,27 @@ keys_same x y keys kinds macs =
 
 -- a stanza
 
-one_stanza : (given : ℕ → Option Setting) (x y : Stanza) → x.line ≡ y.line → IsGiven given x → IsGiven given y → x ≡ y
-one_stanza given x y lines s t =
+one_timed : (settings : List Setting) (x y : TimedKeys) → IsPairOf settings x → IsPairOf settings y → x ≡ y
+one_timed settings x y s t =
+    let keys = keys_same x.keys y.keys (same_Some x.keys.key y.keys.key (sym s.key ∙ t.key)) (s.kind ∙ sym t.kind)
+    (same_Some x.keys.mac_key y.keys.mac_key (sym s.mac_key ∙ t.mac_key)) in
+    let until = s.until ∙ sym t.until in
+    λ i. record { keys = keys i; until = until i }
+
+one_ring : (pairs : List (List Setting)) (x y : List TimedKeys) → AllZip IsPairOf pairs x → AllZip IsPairOf pairs y → x ≡ y
+one_ring [] [] [] s t = refl
+one_ring [] [] (b ∷ y) s t = absurd t
+one_ring [] (a ∷ x) y s t = absurd s
+one_ring (p ∷ pairs) [] y s t = absurd s
+one_ring (p ∷ pairs) (a ∷ x) [] s t = absurd t
+one_ring (p ∷ pairs) (a ∷ x) (b ∷ y) s t =
+    ap (λ (k : TimedKeys). k ∷ x) (one_timed p a b s.0 t.0) ∙ ap (λ (r : List TimedKeys). b ∷ r) (one_ring pairs x y s.1 t.1)
+
+one_stanza : (given : ℕ → Option Setting) (x y : Stanza) → x.line ≡ y.line → x.ring ≡ y.ring → IsGiven given x → IsGiven given y → x ≡ y
+one_stanza given x y lines ring s t =
     let sources = given_sources _ x.sources y.sources s.sources t.sources in
     let allowed = s.allowed ∙ sym t.allowed in
     let barred = s.barred ∙ sym t.barred in
-    let keys = keys_same x.keys y.keys (same_Some x.keys.key y.keys.key (sym s.key ∙ t.key)) (s.kind ∙ sym t.kind)
-    (same_Some x.keys.mac_key y.keys.mac_key (sym s.mac_key ∙ t.mac_key)) in
     let user = s.user ∙ sym t.user in
     let need = s.need_source ∙ sym t.need_source in
     let expire = s.expire ∙ sym t.expire in
@@ -137,7 +153,7 @@ one_stanza given x y lines s t =
       sources = sources i;
       allowed = allowed i;
       barred = barred i;
-      keys = keys i;
+      ring = ring i;
       user = user i;
       need_source = need i;
       expire = expire i;
@@ -148,7 +164,9 @@ one_stanza given x y lines s t =
 
 stanza_same : (lines : List NumberedLine) (x y : Stanza) → IsStanzaOf lines x → IsStanzaOf lines y → x ≡ y
 stanza_same [] x y s t = absurd s
-stanza_same (source ∷ lines) x y s t = one_stanza (given_by_lines (source ∷ lines)) x y (s.0 ∙ sym t.0) s.1 t.1
+stanza_same (source ∷ lines) x y s t =
+    let settings = settings_of (source ∷ lines) in
+    one_stanza (given_behind settings) x y (s.0 ∙ sym t.0) (one_ring (key_pairs settings) x.ring y.ring s.1.ring t.1.ring) s.1.fields t.1.fields
 
 stanzas_same : (lines : List (List NumberedLine)) (x y : List Stanza) → AllZip IsStanzaOf lines x → AllZip IsStanzaOf lines y → x ≡ y
 stanzas_same [] [] [] s t = refl

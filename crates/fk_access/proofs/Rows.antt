@@ -1,8 +1,8 @@
 -- Rows that the definitions compute.
-use Rattle.std.proofs.Common.{◌≡◌, List, [], ◌∷◌, None, Some, refl}
-use Rattle.std.specs.Prelude.{codes, map}
-use Rattle.fk_lines.specs.Lines.{lines_from, lines_of}
-use Rattle.fk_access.specs.declared.access_err.AccessWhat.TheVariants.{NoKey, NoSource, Twice}
+use Rattle.std.proofs.Common.{◌≡◌, [], None, Some, refl}
+use Rattle.std.specs.Prelude.{codes}
+use Rattle.fk_lines.specs.Lines.{lines_from}
+use Rattle.fk_access.specs.declared.access_err.AccessWhat.TheVariants.{NoKey, NoSource}
 use Rattle.fk_access.specs.AccessFault.{access_fault}
 
 empty_is_right : access_fault [] ≡ None

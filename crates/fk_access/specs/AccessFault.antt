@@ -1,17 +1,19 @@
 -- What is wrong with an access file.
-use Rattle.std.specs.Prelude.{◌≡◌, ℕ, zero, suc, is_none, List, [], ◌∷◌, ◌++◌, Option, Some, None, Result, Ok, Err, if◌then◌else◌}
-use Rattle.std.specs.Option.{option_map, option_or}
+use Rattle.std.specs.Prelude.{◌≡◌, ℕ, ◌==◌, ◌&&◌, zero, suc, Bool, not, nat_le, is_none, length, List, [], ◌∷◌, ◌++◌, Option, Some, None, Result, Ok, Err, if◌then◌else◌}
+use Rattle.std.specs.Option.{option_map, option_map_or, option_or}
+use Rattle.fk_base.specs.FirstFailed.{first_failed}
 use Rattle.fk_lines.specs.Lines.{NumberedLine, Setting, lines_of}
 use Rattle.fk_lines.specs.declared.fault.LineFault.{LineFault}
-use Rattle.fk_values.specs.Settings.{first_fault, given_by, rule_of, settings_of}
+use Rattle.fk_values.specs.Settings.{NameRule, rule_of, settings_of}
 use Rattle.fk_values.specs.Stanzas.{before_head, stanzas_in}
 use Rattle.fk_access.specs.declared.access_err.AccessWhat.{AccessWhat}
-use Rattle.fk_access.specs.declared.access_err.AccessWhat.TheVariants.{UnknownName, NoSource, TooMany, Line}
+use Rattle.fk_access.specs.declared.access_err.AccessWhat.TheVariants.{UnknownName, NoSource, TooMany, Twice, BadValue, Line}
 use Rattle.fk_access.specs.declared.access_err.AccessErr.{AccessErr}
 use Rattle.fk_access.specs.declared.access_err.AccessErr.TheVariants.{Fault, NoMemory}
-use Rattle.fk_access.specs.AccessTable.{access_rules, source_name}
-use Rattle.fk_access.specs.AccessWhat.{access_what}
-use Rattle.fk_access.specs.StanzaKeys.{lacks_first}
+use Rattle.fk_access.specs.declared.access_name.AccessName.TheVariants.{KeysUntil}
+use Rattle.fk_access.specs.AccessTable.{access_rule, access_rules, source_name}
+use Rattle.fk_access.specs.KeyPairs.{ended_pairs, given_behind, is_of_pair}
+use Rattle.fk_access.specs.StanzaKeys.{lacks_first, pair_needs}
 
 -- the stanzas of a text: the lists of its lines from one SOURCE line to the next
 abbrev pub access_stanzas : List ℕ → List (List NumberedLine)
@@ -31,20 +33,44 @@ abbrev pub early_fault : List NumberedLine → Option (ℕ × AccessWhat)
 early_fault [] = None
 early_fault (line ∷ lines) = Some (line.number, early_what line.reading)
 
--- the first fault of a stanza's lines, with the number of its line
-abbrev pub lines_fault : List NumberedLine → Option (ℕ × AccessWhat)
-lines_fault lines = option_map (λ found. (found.0, access_what found.1)) (first_fault access_rules [] lines)
+-- what has this number may stand behind these settings of its stanza: it belongs to no pair, or 4 are not ended yet
+abbrev pub may_follow : List Setting → ℕ → Bool
+may_follow before number = not (is_of_pair number && nat_le 4 (length (ended_pairs before)))
 
--- what the lines of a stanza give for a number, where one does
-abbrev pub given_by_lines : List NumberedLine → ℕ → Option Setting
-given_by_lines lines = given_by access_rules (settings_of lines)
+-- The tests of a setting behind others of its stanza: that it begins no fifth pair, that nothing before it set the same, which
+-- for a pair's names is asked of that pair alone, that its value is right, and where it ends a pair that this has its keys.
+abbrev pub rule_tests : List Setting → List ℕ → NameRule → List (Bool × AccessWhat)
+rule_tests before value rule =
+    (may_follow before rule.sets, TooMany) ∷ (is_none (given_behind before rule.sets), Twice) ∷ (rule.is_value value, BadValue)
+    ∷ (if rule.sets == (access_rule KeysUntil).sets then pair_needs (given_behind before) else [])
+
+-- the first test that a setting fails behind others of its stanza
+abbrev pub setting_what : List Setting → Setting → Option AccessWhat
+setting_what before setting =
+    option_map_or (λ rule. first_failed (rule_tests before setting.value rule)) (rule_of access_rules setting.name) (Some UnknownName)
+
+-- the first test that a line fails behind these settings
+abbrev pub line_what : List Setting → Result Setting LineFault → Option AccessWhat
+line_what before (Ok setting) = setting_what before setting
+line_what before (Err fault) = Some (Line fault)
+
+-- the first fault of a stanza's lines behind these settings, with the number of its line
+abbrev pub lines_fault : List Setting → List NumberedLine → Option (ℕ × AccessWhat)
+lines_fault before [] = None
+lines_fault before (line ∷ lines) =
+    option_or (option_map (λ what. (line.number, what)) (line_what before line.reading))
+    (lines_fault (before ++ settings_of (line ∷ [])) lines)
+
+-- what settings lack that are those of a whole stanza
+abbrev pub settings_lack : List Setting → Option AccessWhat
+settings_lack settings = lacks_first (length (ended_pairs settings)) (given_behind settings)
 
 -- the first fault of a stanza: of its lines, else what it lacks, with the number of its SOURCE line
 abbrev pub stanza_fault : List NumberedLine → Option (ℕ × AccessWhat)
 stanza_fault [] = None
 stanza_fault (source ∷ lines) = option_or
-    (lines_fault (source ∷ lines))
-    (option_map (λ what. (source.number, what)) (lacks_first (given_by_lines (source ∷ lines))))
+    (lines_fault [] (source ∷ lines))
+    (option_map (λ what. (source.number, what)) (settings_lack (settings_of (source ∷ lines))))
 
 -- one stanza more than there may be, with the number of its SOURCE line
 abbrev pub too_many : List NumberedLine → Option (ℕ × AccessWhat)

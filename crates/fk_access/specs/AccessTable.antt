@@ -1,6 +1,5 @@
 -- The names of an access file.
 use Rattle.std.specs.Prelude.{ℕ, List, [], ◌∷◌, map, codes, Option}
-use Rattle.fk_base.specs.Decimal.{number_in}
 use Rattle.fk_base.specs.declared.moment.TheConstants.{GREATEST_MOMENT}
 use Rattle.fk_subst.specs.CommandFault.{is_template}
 use Rattle.fk_lines.specs.Lines.{Setting}
@@ -9,7 +8,7 @@ use Rattle.fk_values.specs.Values.{number_within, flag_in, hash_in, has_len_with
 use Rattle.fk_base.specs.declared.moment.TheConstants.{LONGEST_TIME}
 use Rattle.fk_access.specs.AccessValues.{are_sources, pairs_in, is_closing}
 use Rattle.fk_access.specs.declared.access_name.AccessName.{AccessName}
-use Rattle.fk_access.specs.declared.access_name.AccessName.TheVariants.{Source, OpenPorts, RestrictPorts, Key, KeyBase64, HmacKey, HmacKeyBase64, HmacDigestType, RequireUsername, RequireSourceAddress, AccessExpireEpoch, CmdCycleOpen, CmdCycleClose, CmdCycleTimer, FwAccessTimeout}
+use Rattle.fk_access.specs.declared.access_name.AccessName.TheVariants.{Source, OpenPorts, RestrictPorts, Key, KeyBase64, HmacKey, HmacKeyBase64, HmacDigestType, RequireUsername, RequireSourceAddress, AccessExpireEpoch, CmdCycleOpen, CmdCycleClose, CmdCycleTimer, FwAccessTimeout, KeysUntil}
 
 -- the table of the names: the number of what each sets, and what its value may be
 abbrev pub access_rule : AccessName → NameRule
@@ -28,12 +27,13 @@ access_rule CmdCycleOpen = named (codes "CMD_CYCLE_OPEN") 9 is_template
 access_rule CmdCycleClose = named (codes "CMD_CYCLE_CLOSE") 10 is_closing
 access_rule CmdCycleTimer = named (codes "CMD_CYCLE_TIMER") 11 (reads_as (number_within 1 LONGEST_TIME))
 access_rule FwAccessTimeout = named (codes "FW_ACCESS_TIMEOUT") 12 (reads_as (number_within 0 18446744073709551615))
+access_rule KeysUntil = named (codes "KEYS_UNTIL") 13 (reads_as (number_within 0 GREATEST_MOMENT))
 
 -- every name
 abbrev pub access_names : List AccessName
 access_names =
     Source ∷ OpenPorts ∷ RestrictPorts ∷ Key ∷ KeyBase64 ∷ HmacKey ∷ HmacKeyBase64 ∷ HmacDigestType ∷ RequireUsername
-    ∷ RequireSourceAddress ∷ AccessExpireEpoch ∷ CmdCycleOpen ∷ CmdCycleClose ∷ CmdCycleTimer ∷ FwAccessTimeout ∷ []
+    ∷ RequireSourceAddress ∷ AccessExpireEpoch ∷ CmdCycleOpen ∷ CmdCycleClose ∷ CmdCycleTimer ∷ FwAccessTimeout ∷ KeysUntil ∷ []
 
 -- the rules of all names
 abbrev pub access_rules : List NameRule

@@ -2,6 +2,9 @@ pub mod AccessFault
 pub mod AccessTable
 pub mod AccessValues
 pub mod AccessWhat
+pub mod Current
+pub mod KeyPairs
+pub mod PairGiven
 pub mod Private
 pub mod ReadsAccess
 pub mod SourcesOf

@@ -9,7 +9,7 @@ use fk_values::SettingFault;
 #[derive(Clone, Copy, Debug, PartialEq, Eq)]
 pub enum AccessWhat {
     UnknownName,
-    /// The name stood in this stanza before.
+    /// The name stood in this stanza before; that of a key, of an HMAC's key or of its hash behind the last KEYS_UNTIL.
     Twice,
     BadValue,
     /// A setting before the first SOURCE line.
@@ -19,7 +19,7 @@ pub enum AccessWhat {
     NoOpen,
     NoClose,
     NoTimer,
-    /// A 257th stanza.
+    /// A 257th stanza, or a fifth pair of keys in one.
     TooMany,
     Line(LineFault),
 }
@@ -27,7 +27,7 @@ pub enum AccessWhat {
 /// Why there is no access list.
 #[derive(Clone, Copy, Debug, PartialEq, Eq)]
 pub enum AccessErr {
-    /// The line is counted from 1: that of the SOURCE where a stanza lacks something.
+    /// The line is counted from 1: where something is lacking that of the KEYS_UNTIL, or of the SOURCE at the stanza's end.
     Fault { line: u32, what: AccessWhat },
     NoMemory,
 }
@@ -52,15 +52,5 @@ pub(crate) fn access_what(fault: SettingFault) -> AccessWhat
         SettingFault::UnknownName => AccessWhat::UnknownName,
         SettingFault::Twice => AccessWhat::Twice,
         SettingFault::BadValue => AccessWhat::BadValue,
-    }
-}
-
-/// The fault of the line with this number.
-pub(crate) fn err_at(line: u32, fault: SettingFault) -> AccessErr
-    ensures { result ≡ AccessErr.Fault line (access_what fault) }
-{
-    AccessErr::Fault {
-        line,
-        what: access_what(fault),
     }
 }

@@ -5,6 +5,7 @@ ghost use Rattle.std.specs.Str.{bytes_eq};
 ghost use Rattle.fk_base.specs.Characters.{is_line_byte};
 ghost use Rattle.fk_values.specs.Given.{given_at, said_by};
 ghost use Rattle.fk_access.specs.AccessTable.{access_names, access_rule, given_in};
+ghost use Rattle.fk_access.specs.KeyPairs.{is_of_pair};
 
 use crate::net_list::is_net_list;
 use crate::pair_list::read_pairs;
@@ -34,9 +35,10 @@ pub(crate) enum AccessName {
     CmdCycleClose,
     CmdCycleTimer,
     FwAccessTimeout,
+    KeysUntil,
 }
 
-const ACCESS_NAMES: [AccessName; 15] = [
+const ACCESS_NAMES: [AccessName; 16] = [
     AccessName::Source,
     AccessName::OpenPorts,
     AccessName::RestrictPorts,
@@ -52,6 +54,7 @@ const ACCESS_NAMES: [AccessName; 15] = [
     AccessName::CmdCycleClose,
     AccessName::CmdCycleTimer,
     AccessName::FwAccessTimeout,
+    AccessName::KeysUntil,
 ];
 
 impl AccessName {
@@ -84,6 +87,7 @@ impl AccessName {
             AccessName::CmdCycleClose => b"CMD_CYCLE_CLOSE",
             AccessName::CmdCycleTimer => b"CMD_CYCLE_TIMER",
             AccessName::FwAccessTimeout => b"FW_ACCESS_TIMEOUT",
+            AccessName::KeysUntil => b"KEYS_UNTIL",
         }
     }
 
@@ -106,6 +110,22 @@ impl AccessName {
             AccessName::CmdCycleClose => 10,
             AccessName::CmdCycleTimer => 11,
             AccessName::FwAccessTimeout => 12,
+            AccessName::KeysUntil => 13,
+        }
+    }
+
+    /// Whether it is one of a pair of keys, and does not count for another pair.
+    pub(crate) fn is_of_pair(self) -> bool
+        ensures { result ≡ is_of_pair (access_rule self).sets }
+    {
+        match self {
+            AccessName::Key
+            | AccessName::KeyBase64
+            | AccessName::HmacKey
+            | AccessName::HmacKeyBase64
+            | AccessName::HmacDigestType
+            | AccessName::KeysUntil => true,
+            _ => false,
         }
     }
 
@@ -121,7 +141,9 @@ impl AccessName {
             AccessName::HmacDigestType => read_hash_name(value).is_some(),
             AccessName::RequireUsername => 1 <= value.len() && value.len() <= 64,
             AccessName::RequireSourceAddress => read_flag(value).is_some(),
-            AccessName::AccessExpireEpoch => read_number(value, 0, GREATEST_MOMENT).is_some(),
+            AccessName::AccessExpireEpoch | AccessName::KeysUntil => {
+                read_number(value, 0, GREATEST_MOMENT).is_some()
+            }
             AccessName::CmdCycleOpen => is_template(value),
             AccessName::CmdCycleClose => value != b"NONE".as_slice() && is_template(value),
             AccessName::CmdCycleTimer => read_number(value, 1, LONGEST_TIME).is_some(),

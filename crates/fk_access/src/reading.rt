@@ -5,7 +5,6 @@ ghost use Rattle.fk_access.specs.AccessTable.{source_name};
 ghost use Rattle.fk_access.specs.Private.{IsErrAt, IsFaultAt, IsSourceLine};
 ghost use Rattle.fk_access.specs.ReadsAccess.{IsStanzaOf, ReadsAccess};
 
-use crate::access_err::err_at;
 use crate::access_name::AccessName;
 use crate::body::{is_source, read_body};
 use crate::sources::read_sources;
@@ -13,7 +12,6 @@ use crate::stanza_of::stanza_of;
 use crate::{Access, AccessErr, AccessWhat, STANZAS_LIMIT, Stanza};
 use fk_base::FILE_LIMIT;
 use fk_lines::{Line, Lines};
-use fk_values::SettingFault;
 use std::alloc::Global;
 
 /// Reads an access file.
@@ -53,7 +51,10 @@ fn first_source<'a>(lines: &mut Lines<'a>) -> Result<Option<Line<'a>>, AccessErr
 {
     match lines.next() {
         None => Ok(None),
-        Some(Err(fault)) => Err(err_at(lines.number(), SettingFault::Line(fault))),
+        Some(Err(fault)) => Err(AccessErr::Fault {
+            line: lines.number(),
+            what: AccessWhat::Line(fault),
+        }),
         Some(Ok(line)) => {
             if is_source(line.name) {
                 return Ok(Some(line));
@@ -91,13 +92,16 @@ fn read_stanza<'a>(
     ensures next { IfOk result (λ read. IfSome read.1 IsSourceLine) }
 {
     let Some(sources) = read_sources(source.value) else {
-        return Err(err_at(source.number, SettingFault::BadValue));
+        return Err(AccessErr::Fault {
+            line: source.number,
+            what: AccessWhat::BadValue,
+        });
     };
-    let (given, next) = match read_body(source, lines) {
+    let (body, next) = match read_body(source, lines) {
         Ok(read) => read,
         Err(err) => return Err(err),
     };
-    match stanza_of(alloc, source.number, sources, &given) {
+    match stanza_of(alloc, source.number, sources, &body) {
         Ok(stanza) => Ok((stanza, next)),
         Err(err) => Err(err),
     }

@@ -1,5 +1,5 @@
-use crate::{PairList, Sources};
-use fk_base::{Bytes, Keys};
+use crate::{KeyRing, PairList, Sources};
+use fk_base::Bytes;
 use fk_subst::Template;
 
 /// One rule of an access file: who may open what, and the commands that do it.
@@ -12,7 +12,7 @@ pub struct Stanza {
     pub allowed: Option<PairList>,
     /// The pairs that may not be asked for, whatever `allowed` says.
     pub barred: Option<PairList>,
-    pub keys: Keys,
+    pub ring: KeyRing,
     /// The one user, where one is required.
     pub user: Option<Bytes>,
     /// Whether a packet has to name the address that it asks for.

@@ -12,10 +12,9 @@ use Rattle.fk_access.specs.declared.stanza.Stanza.{Stanza}
 use Rattle.fk_packet.specs.Shape.{shape_fault}
 use Rattle.fk_admit.specs.declared.refusal.Refusal.{Refusal}
 use Rattle.fk_admit.specs.declared.refusal.Refusal.TheVariants.{NoStanza}
-use Rattle.fk_admit.specs.Admit.{admitted, admitted_by, blocks_for, blocks_in_all, failed_condition, first_grant, grant_of, granted_by, served_blocks, why}
+use Rattle.fk_admit.specs.Admit.{admitted, admitted_by, blocks_for, blocks_in_all, failed_condition, fields_by, first_grant, grant_of, granted_by, served_blocks, why}
 use Rattle.fk_admit.specs.Arrival.{Arrival}
 use Rattle.fk_admit.specs.Conditions.{serves, served_tests}
-use Rattle.fk_admit.specs.KeyConditions.{fields_under}
 
 -- a list at the place of one of its items
 
@@ -34,15 +33,15 @@ take-item (y ∷ xs) (suc at) x is = ap (λ zs. y ∷ zs) (take-item xs at x is)
 pub serves_none : (number : ℕ) (stanza : Stanza) (arrival : Arrival) → serves stanza.sources arrival.source ≡ false → granted_by number stanza arrival ≡ None
 serves_none number stanza arrival other =
     ap (λ (s : Bool). if is_none (if s then first_failed (served_tests stanza arrival) else Some NoStanza)
-    then option_map (grant_of number stanza arrival) (fields_under stanza.keys arrival.datagram) else None) other
+    then option_map (grant_of number stanza arrival) (fields_by stanza arrival) else None) other
 
 pub served_by : (number : ℕ) (stanza : Stanza) (arrival : Arrival) (found : Option Refusal) → serves stanza.sources arrival.source ≡ true →
     first_failed (served_tests stanza arrival) ≡ found →
-    granted_by number stanza arrival ≡ (if is_none found then option_map (grant_of number stanza arrival) (fields_under stanza.keys arrival.datagram) else None)
+    granted_by number stanza arrival ≡ (if is_none found then option_map (grant_of number stanza arrival) (fields_by stanza arrival) else None)
 served_by number stanza arrival found served is =
     ap (λ (s : Bool). if is_none (if s then first_failed (served_tests stanza arrival) else Some NoStanza)
-    then option_map (grant_of number stanza arrival) (fields_under stanza.keys arrival.datagram) else None) served
-    ∙ ap (λ (f : Option Refusal). if is_none f then option_map (grant_of number stanza arrival) (fields_under stanza.keys arrival.datagram) else None) is
+    then option_map (grant_of number stanza arrival) (fields_by stanza arrival) else None) served
+    ∙ ap (λ (f : Option Refusal). if is_none f then option_map (grant_of number stanza arrival) (fields_by stanza arrival) else None) is
 
 -- so many stanzas were tried, and none of them grants
 pub record IsTrying (access : List Stanza) (arrival : Arrival) (at : ℕ) (first : Option Refusal) : Type 0 where
@@ -58,7 +57,7 @@ next_grant access arrival at stanza is = ap (λ (l : List Stanza). first_grant (
 
 pub stanza_grants : (access : List Stanza) (arrival : Arrival) (at : ℕ) (stanza : Stanza) (first : Option Refusal) (grant : Grant) → IsTrying access arrival at first →
     slice_get access at ≡ Some stanza → serves stanza.sources arrival.source ≡ true → first_failed (served_tests stanza arrival) ≡ None →
-    option_map (grant_of (at + 1) stanza arrival) (fields_under stanza.keys arrival.datagram) ≡ Some grant → shape_fault arrival.datagram ≡ None →
+    option_map (grant_of (at + 1) stanza arrival) (fields_by stanza arrival) ≡ Some grant → shape_fault arrival.datagram ≡ None →
     admitted access arrival ≡ Ok grant
 stanza_grants access arrival at stanza first grant before is served passed grants shape =
     let this : granted_by (at + 1) stanza arrival ≡ Some grant = served_by (at + 1) stanza arrival None served passed ∙ grants in

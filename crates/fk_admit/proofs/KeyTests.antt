@@ -1,6 +1,6 @@
 -- What opening a datagram under keys says of the conditions that the keys decide.
-use Rattle.std.proofs.Common.{◌≡◌, ℕ, Bool, true, false, List, [], ◌∷◌, ◌++◌, Option, Some, None, Result, Ok, Err, refl, subst, if◌then◌else◌}
-use Rattle.std.specs.Prelude.{is_ok, is_some}
+use Rattle.std.proofs.Common.{◌≡◌, ◌⊎◌, ℕ, ◌<◌, Bool, true, false, ◌&&◌, List, [], ◌∷◌, Option, Some, None, Result, Ok, Err, refl, sym, subst, inl, inr, if◌then◌else◌}
+use Rattle.std.specs.Prelude.{is_ok, is_some, unwrap_or}
 use Rattle.std.specs.Option.{option_and_then, option_map_or}
 use Rattle.std.specs.Result.{result_ok}
 use Rattle.fk_base.specs.FirstFailed.{first_failed}
@@ -11,73 +11,105 @@ use Rattle.fk_codec.specs.declared.fault.DecodeFault.TheVariants as decode
 use Rattle.fk_codec.specs.DecodeFault.{decoded}
 use Rattle.fk_packet.specs.declared.fault.PacketFault.{PacketFault}
 use Rattle.fk_packet.specs.declared.fault.PacketFault.TheVariants as fault
-use Rattle.fk_packet.specs.Opens.{fields_opened, is_authentic, opened_under, read_plain}
-use Rattle.fk_admit.specs.declared.refusal.AdmitFault.{AdmitFault}
-use Rattle.fk_admit.specs.declared.refusal.AdmitFault.TheVariants.{Refused, NoMemory}
+use Rattle.fk_packet.specs.Opens.{blocks_under, fields_opened, is_authentic, opened_under, read_plain}
+use Rattle.fk_packet.specs.Pick.{fits, plain_under}
+use Rattle.fk_admit.specs.declared.opening.Opening.{Opening}
+use Rattle.fk_admit.specs.declared.opening.Opening.TheVariants as opening
 use Rattle.fk_admit.specs.declared.refusal.Refusal.{Refusal}
-use Rattle.fk_admit.specs.declared.refusal.Refusal.TheVariants.{Mac, Cipher, Plain, Kind}
-use Rattle.fk_admit.specs.KeyConditions.{fields_under, is_plaintext, key_tests, plain_under}
-use Rattle.fk_admit.specs.Private.{key_refusal, plain_refusal}
+use Rattle.fk_admit.specs.declared.refusal.Refusal.TheVariants.{Mac, Cipher, Plain}
+use Rattle.fk_admit.specs.KeyConditions.{fields_under, is_plaintext, is_right_but_for_type, is_served_type}
+use Rattle.fk_admit.specs.Private.{IsOpening, fault_opening, plain_opening}
 
--- the conditions of keys whose HMAC and plaintext are these
-tests_by : Bool → Option (List ℕ) → List (Bool × Refusal)
-tests_by authentic plain =
-    (authentic, Mac) ∷ (is_some plain, Cipher) ∷ (option_map_or (λ text. is_plaintext (decoded text)) plain false, Plain)
-    ∷ (option_map_or (λ text. is_ok (decoded text)) plain false, Kind) ∷ []
+-- what opening gives where the fields are opened
 
--- the refusal is this one; want of memory is none
-abbrev pub IsRefusal : AdmitFault → Option Refusal → Type 0
-IsRefusal (Refused why) found = found ≡ Some why
-IsRefusal NoMemory found = ⊥
+pub record OpensFields (keys : Keys) (datagram : List ℕ) (fields : Fields) : Type 0 where
+  pub fitting : fits is_plaintext datagram keys ≡ true
+  pub served : is_served_type keys datagram ≡ true
+  pub fields_are : fields_under keys datagram ≡ Some fields
 
-plain_ok : (read : Result Fields DecodeFault) (fields : Fields) (rest : List (Bool × Refusal)) → read_plain read ≡ Ok fields →
-    (first_failed ((is_plaintext read, Plain) ∷ (is_ok read, Kind) ∷ rest) ≡ first_failed rest) × (result_ok read ≡ Some fields)
-plain_ok (Ok f) fields rest is = (refl, cc)
-plain_ok (Err (decode.KindOut type)) fields rest is = cc
-plain_ok (Err w) fields rest is = cc
+abbrev Facts : Bool → Option (List ℕ) → Fields → Type 0
+Facts authentic plain fields =
+    (authentic && option_map_or is_plaintext plain false ≡ true) × (option_map_or (λ text. is_ok (decoded text)) plain false ≡ true)
+    × (option_and_then (λ text. result_ok (decoded text)) plain ≡ Some fields)
 
-tests_passed : (authentic : Bool) (plain : Option (List ℕ)) (fields : Fields) (rest : List (Bool × Refusal)) →
-    (if authentic then fields_opened plain else Err fault.Mac) ≡ Ok fields →
-    (first_failed (tests_by authentic plain ++ rest) ≡ first_failed rest) × (option_and_then (λ text. result_ok (decoded text)) plain ≡ Some fields)
-unfolding tests_by
-tests_passed false plain fields rest is = cc
-tests_passed true None fields rest is = cc
-tests_passed true (Some text) fields rest is = plain_ok (decoded text) fields rest is
+read_facts : (read : Result Fields DecodeFault) (fields : Fields) → read_plain read ≡ Ok fields →
+    (is_right_but_for_type read ≡ true) × (is_ok read ≡ true) × (result_ok read ≡ Some fields)
+read_facts (Ok f) fields is = (refl, refl, cc)
+read_facts (Err w) fields is = cc
 
-plain_wrong : (why : DecodeFault) (rest : List (Bool × Refusal)) →
-    first_failed ((is_plaintext (Err why), Plain) ∷ (false, Kind) ∷ rest) ≡ Some (plain_refusal why)
-plain_wrong (decode.Missing n) rest = refl
-plain_wrong (decode.Bad n) rest = refl
-plain_wrong (decode.KindOut type) rest = refl
-plain_wrong decode.DigestLength rest = refl
-plain_wrong decode.DigestDiffers rest = refl
-plain_wrong decode.NoMemory rest = refl
+facts : (authentic : Bool) (plain : Option (List ℕ)) (fields : Fields) →
+    (if authentic then fields_opened plain else Err fault.Mac) ≡ Ok fields → Facts authentic plain fields
+facts false plain fields is = cc
+facts true None fields is = cc
+facts true (Some text) fields is = read_facts (decoded text) fields is
 
-plain_failed : (read : Result Fields DecodeFault) (f : PacketFault) (rest : List (Bool × Refusal)) → read_plain read ≡ Err f →
-    IsRefusal (key_refusal f) (first_failed ((is_plaintext read, Plain) ∷ (is_ok read, Kind) ∷ rest))
-plain_failed (Ok fields) f rest is = cc
-plain_failed (Err why) f rest is =
+pub opens_fields : (keys : Keys) (datagram : List ℕ) (fields : Fields) → opened_under keys datagram ≡ Ok fields → OpensFields keys datagram fields
+unfolding opened_under
+opens_fields keys datagram fields is =
+    let known = facts (is_authentic keys datagram) (plain_under keys datagram) fields is in
+    record { fitting = known.0; served = known.1; fields_are = known.2 }
+
+-- and where they are not
+
+abbrev IsReadBy : Result Fields DecodeFault → Opening → Type 0
+IsReadBy read (opening.Opened fields) = ⊥
+IsReadBy read opening.OtherType = (is_right_but_for_type read ≡ true) × (is_ok read ≡ false)
+IsReadBy read (opening.Failed why) = (true ≡ true) × (is_right_but_for_type read ≡ false)
+    × (unwrap_or (first_failed ((is_right_but_for_type read, Plain) ∷ [])) Mac ≡ why)
+IsReadBy read opening.OtherHmac = ⊥
+IsReadBy read opening.NoMemory = ⊥
+
+abbrev IsOpeningBy : Bool → Option (List ℕ) → Opening → Type 0
+IsOpeningBy authentic plain (opening.Opened fields) = ⊥
+IsOpeningBy authentic plain opening.OtherType =
+    (authentic && option_map_or is_plaintext plain false ≡ true) × (option_map_or (λ text. is_ok (decoded text)) plain false ≡ false)
+IsOpeningBy authentic plain (opening.Failed why) = (authentic ≡ true) × (authentic && option_map_or is_plaintext plain false ≡ false)
+    × (unwrap_or (first_failed ((authentic, Mac) ∷ (is_some plain, Cipher) ∷ (option_map_or is_plaintext plain false, Plain) ∷ [])) Mac ≡ why)
+IsOpeningBy authentic plain opening.OtherHmac = authentic ≡ false
+IsOpeningBy authentic plain opening.NoMemory = ⊥
+
+plain_wrong : (why : DecodeFault) → IsReadBy (Err why) (plain_opening why)
+plain_wrong (decode.Missing n) = (refl, refl, refl)
+plain_wrong (decode.Bad n) = (refl, refl, refl)
+plain_wrong (decode.KindOut type) = (refl, refl)
+plain_wrong decode.DigestLength = (refl, refl, refl)
+plain_wrong decode.DigestDiffers = (refl, refl, refl)
+plain_wrong decode.NoMemory = (refl, refl, refl)
+
+plain_by : (read : Result Fields DecodeFault) (f : PacketFault) → read_plain read ≡ Err f → IsReadBy read (fault_opening f)
+plain_by (Ok fields) f is = cc
+plain_by (Err why) f is =
     let e : fault.Plain why ≡ f = cc in
-    subst (λ (g : PacketFault). IsRefusal (key_refusal g) (first_failed ((is_plaintext (Err why), Plain) ∷ (false, Kind) ∷ rest))) e (plain_wrong why rest)
+    subst (λ (g : PacketFault). IsReadBy (Err why) (fault_opening g)) e (plain_wrong why)
 
-tests_failed : (authentic : Bool) (plain : Option (List ℕ)) (f : PacketFault) (rest : List (Bool × Refusal)) →
-    (if authentic then fields_opened plain else Err fault.Mac) ≡ Err f →
-    IsRefusal (key_refusal f) (first_failed (tests_by authentic plain ++ rest))
-unfolding tests_by
-tests_failed false plain f rest is =
-    let e : fault.Mac ≡ f = cc in
-    subst (λ (g : PacketFault). IsRefusal (key_refusal g) (Some Mac)) e refl
-tests_failed true None f rest is =
-    let e : fault.Cipher ≡ f = cc in
-    subst (λ (g : PacketFault). IsRefusal (key_refusal g) (Some Cipher)) e refl
-tests_failed true (Some text) f rest is = plain_failed (decoded text) f rest is
+by_text : (text : List ℕ) (o : Opening) → IsReadBy (decoded text) o → IsOpeningBy true (Some text) o
+by_text text (opening.Opened fields) is = is
+by_text text opening.OtherType is = is
+by_text text (opening.Failed why) is = is
+by_text text opening.OtherHmac is = absurd is
+by_text text opening.NoMemory is = is
 
-pub keys_open : (keys : Keys) (datagram : List ℕ) (fields : Fields) (rest : List (Bool × Refusal)) → opened_under keys datagram ≡ Ok fields →
-    (first_failed (key_tests keys datagram ++ rest) ≡ first_failed rest) × (fields_under keys datagram ≡ Some fields)
-unfolding opened_under tests_by
-keys_open keys datagram fields rest is = tests_passed (is_authentic keys datagram) (plain_under keys datagram) fields rest is
+fault_by : (authentic : Bool) (plain : Option (List ℕ)) (f : PacketFault) → (if authentic then fields_opened plain else Err fault.Mac) ≡ Err f →
+    IsOpeningBy authentic plain (fault_opening f)
+fault_by false plain f is =
+    let e : fault.Mac ≡ f = cc in subst (λ (g : PacketFault). IsOpeningBy false plain (fault_opening g)) e refl
+fault_by true None f is =
+    let e : fault.Cipher ≡ f = cc in subst (λ (g : PacketFault). IsOpeningBy true None (fault_opening g)) e (refl, refl, refl)
+fault_by true (Some text) f is = by_text text (fault_opening f) (plain_by (decoded text) f is)
 
-pub keys_fail : (keys : Keys) (datagram : List ℕ) (f : PacketFault) (rest : List (Bool × Refusal)) → opened_under keys datagram ≡ Err f →
-    IsRefusal (key_refusal f) (first_failed (key_tests keys datagram ++ rest))
-unfolding opened_under tests_by
-keys_fail keys datagram f rest is = tests_failed (is_authentic keys datagram) (plain_under keys datagram) f rest is
+by_keys : (keys : Keys) (datagram : List ℕ) (o : Opening) → IsOpeningBy (is_authentic keys datagram) (plain_under keys datagram) o → IsOpening keys datagram o
+by_keys keys datagram (opening.Opened fields) is = absurd is
+by_keys keys datagram opening.OtherType is = is
+by_keys keys datagram (opening.Failed why) is = is
+by_keys keys datagram opening.OtherHmac is = is
+by_keys keys datagram opening.NoMemory is = absurd is
+
+refused : (keys : Keys) (datagram : List ℕ) (f : PacketFault) → opened_under keys datagram ≡ Err f → IsOpening keys datagram (fault_opening f)
+unfolding opened_under
+refused keys datagram f is =
+    by_keys keys datagram (fault_opening f) (fault_by (is_authentic keys datagram) (plain_under keys datagram) f is)
+
+pub opens_none : (keys : Keys) (datagram : List ℕ) (f : PacketFault) →
+    (opened_under keys datagram ≡ Err f) ⊎ ((f ≡ fault.NoMemory) × (0 < blocks_under keys datagram)) → IsOpening keys datagram (fault_opening f)
+opens_none keys datagram f (inl is) = refused keys datagram f is
+opens_none keys datagram f (inr wanting) = subst (λ (g : PacketFault). IsOpening keys datagram (fault_opening g)) (sym wanting.0) wanting.1

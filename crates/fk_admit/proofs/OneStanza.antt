@@ -1,59 +1,67 @@
--- What one stanza answers, by what its keys open.
-use Rattle.std.proofs.Common.{◌≡◌, ◌≢◌, ◌⊎◌, ℕ, ◌+◌, ◌<◌, ◌≤◌, Bool, true, false, List, [], ◌++◌, Option, Some, Result, Ok, Err, refl, sym, ◌∙◌, ap, subst, inl, inr, ⊎_elim, arith, if◌then◌else◌}
-use Rattle.std.specs.Option.{option_map, option_map_or}
+-- What one stanza answers, by what its picked keys open.
+use Rattle.std.proofs.Common.{◌≡◌, ◌≢◌, ◌⊎◌, ℕ, ◌+◌, ◌<◌, ◌≤◌, Bool, true, false, List, [], ◌∷◌, Option, Some, None, Result, Ok, Err, refl, sym, ◌∙◌, ap, subst, inl, inr, ⊎_elim, arith, if◌then◌else◌}
+use Rattle.std.specs.Prelude.{is_some}
+use Rattle.std.specs.Option.{option_and_then, option_map, option_map_or}
 use Rattle.std.proofs.lemmas.Bool.{cases_Bool}
 use Rattle.fk_base.specs.FirstFailed.{first_failed}
+use Rattle.fk_base.specs.declared.keys.Keys.{Keys}
 use Rattle.fk_fields.specs.declared.fields.Fields.{Fields}
 use Rattle.fk_access.specs.declared.stanza.Stanza.{Stanza}
 use Rattle.fk_packet.specs.declared.fault.PacketFault.{PacketFault}
 use Rattle.fk_packet.specs.declared.fault.PacketFault.TheVariants as fault
-use Rattle.fk_packet.specs.Opens.{blocks_under, opened_under}
+use Rattle.fk_packet.specs.Pick.{blocks_under_each}
 use Rattle.fk_admit.specs.declared.refusal.AdmitFault.{AdmitFault}
 use Rattle.fk_admit.specs.declared.refusal.AdmitFault.TheVariants.{Refused, NoMemory}
 use Rattle.fk_admit.specs.declared.refusal.Refusal.{Refusal}
-use Rattle.fk_admit.specs.declared.refusal.Refusal.TheVariants.{Expired}
-use Rattle.fk_admit.specs.Admit.{grant_of}
+use Rattle.fk_admit.specs.declared.refusal.Refusal.TheVariants.{Expired, Kind}
+use Rattle.fk_admit.specs.Admit.{fields_by, grant_of}
 use Rattle.fk_admit.specs.Arrival.{Arrival}
-use Rattle.fk_admit.specs.Conditions.{field_tests, is_open_at, served_tests}
-use Rattle.fk_admit.specs.KeyConditions.{fields_under, key_tests}
-use Rattle.fk_admit.specs.Private.{IsServedFault, key_refusal}
-use Rattle.fk_admit.proofs.KeyTests.{IsRefusal, keys_fail, keys_open}
+use Rattle.fk_admit.specs.Conditions.{field_tests, is_open_at, keys_at, picked_by, picked_tests, served_tests}
+use Rattle.fk_admit.specs.KeyConditions.{fields_under, is_served_type, ring_refusal}
+use Rattle.fk_admit.specs.Private.{ArePicked, IsRingFault, IsServedFault}
+use Rattle.fk_admit.proofs.KeyTests.{opens_fields}
 
--- the conditions on what the keys open, behind those that the keys decide
-abbrev pub behind_keys : Stanza → Arrival → List (Bool × Refusal)
-behind_keys stanza arrival = option_map_or (field_tests stanza arrival) (fields_under stanza.keys arrival.datagram) []
+-- the tests behind the last moment of a stanza, by the keys that are picked
+abbrev behind : Stanza → Arrival → Option Keys → Option Refusal
+behind stanza arrival found = first_failed (
+    (is_some found, ring_refusal (keys_at stanza arrival) arrival.datagram) ∷ option_map_or (picked_tests stanza arrival) found []
+    )
 
-served-open : (stanza : Stanza) (arrival : Arrival) → is_open_at stanza.expire arrival.moment ≡ true →
-    first_failed (served_tests stanza arrival) ≡ first_failed (key_tests stanza.keys arrival.datagram ++ behind_keys stanza arrival)
-served-open stanza arrival open_at =
-    ap (λ (b : Bool). if b then first_failed (key_tests stanza.keys arrival.datagram ++ behind_keys stanza arrival) else Some Expired) open_at
+served_open : (stanza : Stanza) (arrival : Arrival) → is_open_at stanza.expire arrival.moment ≡ true →
+    first_failed (served_tests stanza arrival) ≡ behind stanza arrival (picked_by stanza arrival)
+served_open stanza arrival open_at = ap (λ (b : Bool). if b then behind stanza arrival (picked_by stanza arrival) else Some Expired) open_at
 
-as_fault : (stanza : Stanza) (arrival : Arrival) (found : Option Refusal) (answer : AdmitFault) → first_failed (served_tests stanza arrival) ≡ found →
-    IsRefusal answer found → IsServedFault stanza arrival answer
-as_fault stanza arrival found (Refused why) is refusal = is ∙ refusal
-as_fault stanza arrival found NoMemory is refusal = absurd refusal
+type_fails : (served : Bool) (rest : Option Refusal) (why : Refusal) → (if served then None else Some Kind) ≡ Some why → (if served then rest else Some Kind) ≡ Some why
+type_fails true rest why is = cc
+type_fails false rest why is = is
 
-pub served_err : (stanza : Stanza) (arrival : Arrival) (f : PacketFault) → is_open_at stanza.expire arrival.moment ≡ true →
-    (opened_under stanza.keys arrival.datagram ≡ Err f) ⊎ ((f ≡ fault.NoMemory) × (0 < blocks_under stanza.keys arrival.datagram)) →
-    IsServedFault stanza arrival (key_refusal f)
-served_err stanza arrival f open_at (inl is) =
-    as_fault stanza arrival (first_failed (key_tests stanza.keys arrival.datagram ++ behind_keys stanza arrival)) (key_refusal f) (served-open stanza arrival open_at)
-    (keys_fail stanza.keys arrival.datagram f (behind_keys stanza arrival) is)
-served_err stanza arrival f open_at (inr wanting) =
-    subst (λ (g : PacketFault). IsServedFault stanza arrival (key_refusal g)) (sym wanting.0)
-    (subst (λ (b : Bool). 0 < (if b then blocks_under stanza.keys arrival.datagram else 0)) (sym open_at) wanting.1)
+ring_fails : (stanza : Stanza) (arrival : Arrival) (found : Option Keys) (why : Refusal) →
+    first_failed ((is_some found, ring_refusal (keys_at stanza arrival) arrival.datagram)
+    ∷ option_map_or (λ keys. (is_served_type keys arrival.datagram, Kind) ∷ []) found []) ≡ Some why → behind stanza arrival found ≡ Some why
+ring_fails stanza arrival None why is = is
+ring_fails stanza arrival (Some keys) why is =
+    type_fails (is_served_type keys arrival.datagram) (first_failed (option_map_or (field_tests stanza arrival) (fields_under keys arrival.datagram) [])) why is
+
+pub served_fault : (stanza : Stanza) (arrival : Arrival) (answer : AdmitFault) → is_open_at stanza.expire arrival.moment ≡ true →
+    IsRingFault stanza arrival answer → IsServedFault stanza arrival answer
+served_fault stanza arrival (Refused why) open_at is = served_open stanza arrival open_at ∙ ring_fails stanza arrival (picked_by stanza arrival) why is
+served_fault stanza arrival NoMemory open_at some =
+    subst (λ (b : Bool). 0 < (if b then blocks_under_each (keys_at stanza arrival) arrival.datagram else 0)) (sym open_at) some
 
 pub served_fields : (stanza : Stanza) (arrival : Arrival) (fields : Fields) → is_open_at stanza.expire arrival.moment ≡ true →
-    opened_under stanza.keys arrival.datagram ≡ Ok fields → first_failed (served_tests stanza arrival) ≡ first_failed (field_tests stanza arrival fields)
-served_fields stanza arrival fields open_at is =
-    let open_keys = keys_open stanza.keys arrival.datagram fields (behind_keys stanza arrival) is in
-    served-open stanza arrival open_at ∙ open_keys.0
-    ∙ ap (λ (o : Option Fields). first_failed (option_map_or (field_tests stanza arrival) o [])) open_keys.1
+    ArePicked stanza arrival fields → first_failed (served_tests stanza arrival) ≡ first_failed (field_tests stanza arrival fields)
+served_fields stanza arrival fields open_at found =
+    let opens = opens_fields found.keys arrival.datagram fields found.opened in
+    served_open stanza arrival open_at
+    ∙ ap (behind stanza arrival) found.picked
+    ∙ ap (λ (b : Bool). if b then first_failed (option_map_or (field_tests stanza arrival) (fields_under found.keys arrival.datagram) []) else Some Kind) opens.served
+    ∙ ap (λ (o : Option Fields). first_failed (option_map_or (field_tests stanza arrival) o [])) opens.fields_are
 
-pub served_grant : (number : ℕ) (stanza : Stanza) (arrival : Arrival) (fields : Fields) → opened_under stanza.keys arrival.datagram ≡ Ok fields →
-    option_map (grant_of number stanza arrival) (fields_under stanza.keys arrival.datagram) ≡ Some (grant_of number stanza arrival fields)
-served_grant number stanza arrival fields is =
-    ap (option_map (grant_of number stanza arrival)) (keys_open stanza.keys arrival.datagram fields [] is).1
+pub served_grant : (number : ℕ) (stanza : Stanza) (arrival : Arrival) (fields : Fields) → ArePicked stanza arrival fields →
+    option_map (grant_of number stanza arrival) (fields_by stanza arrival) ≡ Some (grant_of number stanza arrival fields)
+served_grant number stanza arrival fields found =
+    ap (λ (o : Option Keys). option_map (grant_of number stanza arrival) (option_and_then (λ keys. fields_under keys arrival.datagram) o)) found.picked
+    ∙ ap (option_map (grant_of number stanza arrival)) (opens_fields found.keys arrival.datagram fields found.opened).fields_are
 
 -- the steps
 

@@ -1,7 +1,7 @@
 -- What is granted for a datagram that arrives, or why nothing is.
 use Rattle.std.specs.Prelude.{ℕ, ◌+◌, ◌==◌, is_none, List, [], ◌∷◌, find, Option, Some, None, Result, Err, unwrap_or, if◌then◌else◌}
 use Rattle.std.specs.List.{sum_by}
-use Rattle.std.specs.Option.{option_map, option_map_or, option_or, ok_or}
+use Rattle.std.specs.Option.{option_and_then, option_map, option_map_or, option_or, ok_or}
 use Rattle.fk_base.specs.FirstFailed.{first_failed}
 use Rattle.fk_base.specs.declared.address.Ip4.{Ip4}
 use Rattle.fk_base.specs.declared.grant.Grant.{Grant}
@@ -9,13 +9,13 @@ use Rattle.fk_fields.specs.declared.fields.Ask.{Ask}
 use Rattle.fk_fields.specs.declared.fields.Ask.TheVariants as ask
 use Rattle.fk_fields.specs.declared.fields.Fields.{Fields}
 use Rattle.fk_fields.specs.Fields.{asked_ip, asked_pairs}
-use Rattle.fk_packet.specs.Opens.{blocks_under}
+use Rattle.fk_packet.specs.Pick.{blocks_under_each}
 use Rattle.fk_packet.specs.Shape.{shape_fault}
 use Rattle.fk_packet.specs.declared.packet_shape.PacketShape.{PacketShape}
 use Rattle.fk_packet.specs.declared.packet_shape.PacketShape.TheVariants as shape
 use Rattle.fk_access.specs.declared.stanza.Stanza.{Stanza}
 use Rattle.fk_admit.specs.Arrival.{Arrival}
-use Rattle.fk_admit.specs.Conditions.{is_open_at, serves, served_tests, tests}
+use Rattle.fk_admit.specs.Conditions.{is_open_at, keys_at, picked_by, serves, served_tests, tests}
 use Rattle.fk_admit.specs.KeyConditions.{fields_under}
 use Rattle.fk_admit.specs.declared.refusal.Refusal.{Refusal}
 use Rattle.fk_admit.specs.declared.refusal.Refusal.TheVariants.{Shape, Prefix, NoStanza}
@@ -40,11 +40,14 @@ grant_of number stanza arrival fields = record {
   stamp = fields.stamp;
 }
 
+-- the fields that the picked keys of a stanza open
+abbrev pub fields_by : Stanza → Arrival → Option Fields
+fields_by stanza arrival = option_and_then (λ keys. fields_under keys arrival.datagram) (picked_by stanza arrival)
+
 -- what a stanza grants: something where all ten conditions hold
 abbrev pub granted_by : ℕ → Stanza → Arrival → Option Grant
 granted_by number stanza arrival =
-    if is_none (first_failed (tests stanza arrival))
-    then option_map (grant_of number stanza arrival) (fields_under stanza.keys arrival.datagram) else None
+    if is_none (first_failed (tests stanza arrival)) then option_map (grant_of number stanza arrival) (fields_by stanza arrival) else None
 
 -- what stanzas grant, which are numbered from here: what the first of them does that grants something
 abbrev pub first_grant : ℕ → List Stanza → Arrival → Option Grant
@@ -75,9 +78,11 @@ admitted_by None access arrival = ok_or (first_grant 1 access arrival) (why acce
 abbrev pub admitted : List Stanza → Arrival → Result Grant Refusal
 admitted access arrival = admitted_by (shape_fault arrival.datagram) access arrival
 
--- how many blocks a stanza that serves the source may cost to open: none where it is over, or its HMAC is another
+-- How many blocks a stanza that serves the source may cost to open: none where it is over, and those of the datagram for each pair
+-- of keys in use under which its HMAC is right.
 abbrev pub served_blocks : Arrival → Stanza → ℕ
-served_blocks arrival stanza = if is_open_at stanza.expire arrival.moment then blocks_under stanza.keys arrival.datagram else 0
+served_blocks arrival stanza =
+    if is_open_at stanza.expire arrival.moment then blocks_under_each (keys_at stanza arrival) arrival.datagram else 0
 
 -- how many a stanza may cost
 abbrev pub blocks_for : Arrival → Stanza → ℕ

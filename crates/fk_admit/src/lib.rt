@@ -1,6 +1,7 @@
 //! Admission: which stanza lets a datagram in, for what and for how long, or why none does.
 //!
-//! A stanza grants where ten conditions hold; stanzas are tried in the order of the file, and the first that grants is taken.
+//! A stanza grants where ten conditions hold, under the first of its pairs of keys in use that opens the datagram; stanzas are
+//! tried in the order of the file, and the first that grants is taken.
 //! No cipher step is made for a datagram whose HMAC no stanza has. Whether a datagram came before, and whether there is room
 //! for its record, is no part of it.
 //!
@@ -14,9 +15,11 @@ mod conditions;
 mod granting;
 mod judging;
 mod laws;
+mod opening;
+mod picking;
 mod ports;
 mod refusal;
 
 pub use admitting::admit;
-pub use laws::the_first_that_grants_is_taken;
+pub use laws::{one_pair_is_ten_conditions, the_first_that_grants_is_taken};
 pub use refusal::{AdmitFault, Refusal};

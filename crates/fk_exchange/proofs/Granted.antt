@@ -5,32 +5,43 @@ use Rattle.std.specs.Option.{ok_or, option_or}
 use Rattle.std.proofs.lemmas.Bool.{cases_lt}
 use Rattle.fk_base.specs.FirstFailed.{first_failed}
 use Rattle.fk_base.specs.declared.grant.Grant.{Grant}
-use Rattle.fk_base.specs.declared.keys.Keys.{Keys}
 use Rattle.fk_fields.specs.Fields.{asked_ip, asked_pairs}
 use Rattle.fk_fields.specs.declared.fields.Fields.{Fields}
-use Rattle.fk_packet.specs.Packs.{Packs}
 use Rattle.fk_packet.specs.Shape.{shape_fault}
 use Rattle.fk_packet.proofs.Law.{opened_packed, shape_packed}
 use Rattle.fk_access.specs.declared.stanza.Stanza.{Stanza}
 use Rattle.fk_admit.specs.Admit.{admitted, admitted_by, first_grant, granted_by, why}
 use Rattle.fk_admit.specs.Arrival.{Arrival}
-use Rattle.fk_admit.specs.Conditions.{field_tests, is_user_of, is_young, may_open_all, names_address}
+use Rattle.fk_admit.specs.Conditions.{field_tests, is_user_of, is_young, may_open_all, names_address, picked_by}
+use Rattle.fk_admit.specs.Private.{ArePicked}
 use Rattle.fk_admit.proofs.AllStanzas.{served_by}
 use Rattle.fk_admit.proofs.FirstOfAll.{first_of_all}
+use Rattle.fk_admit.proofs.KeyTests.{opens_fields}
 use Rattle.fk_admit.proofs.OneStanza.{served_fields, served_grant}
 use Rattle.fk_client.specs.Sent.{fields_of}
 use Rattle.fk_exchange.specs.Granted.{IsLetIn, grant_for}
-use Rattle.fk_exchange.specs.Permits.{Permits}
-use Rattle.fk_exchange.specs.Request.{Arrives, Request}
+use Rattle.fk_exchange.specs.Permits.{HasFirst, Permits}
+use Rattle.fk_exchange.specs.Request.{Arrives, IsDatagramOf, Request}
+use Rattle.fk_exchange.proofs.FirstKeys.{first_is_picked}
 use Rattle.fk_exchange.proofs.Conditions.{named, not_over, opens_to_all, required, served, young}
 
 abbrev fields_for : Request → Fields
 fields_for request = fields_of request.settings request.moment request.drawn
 
-packed_under : (request : Request) (arrival : Arrival) (stanza : Stanza) → Arrives request arrival → Permits stanza request arrival →
-    Packs stanza.keys (fields_for request) arrival.datagram
-packed_under request arrival stanza arrives permits =
-    subst (λ (keys : Keys). Packs keys (fields_for request) arrival.datagram) (sym permits.keys) arrives.sent.0
+picked_for : (request : Request) (arrival : Arrival) (stanza : Stanza) → IsDatagramOf request arrival.datagram →
+    picked_by stanza arrival ≡ Some request.settings.keys → ArePicked stanza arrival (fields_for request)
+picked_for request arrival stanza sent picked_is = record {
+  keys = request.settings.keys;
+  picked = picked_is;
+  opened = opened_packed request.settings.keys (fields_for request) arrival.datagram sent.0;
+}
+
+pub first_for : (request : Request) (arrival : Arrival) (stanza : Stanza) → IsDatagramOf request arrival.datagram →
+    HasFirst stanza.ring request.settings.keys arrival → ArePicked stanza arrival (fields_for request)
+first_for request arrival stanza sent first =
+    let opens = opens_fields request.settings.keys arrival.datagram (fields_for request)
+    (opened_packed request.settings.keys (fields_for request) arrival.datagram sent.0) in
+    picked_for request arrival stanza sent (first_is_picked stanza.ring request.settings.keys arrival opens.fitting first)
 
 fields_pass : (request : Request) (arrival : Arrival) (stanza : Stanza) → Arrives request arrival → Permits stanza request arrival →
     first_failed (field_tests stanza arrival (fields_for request)) ≡ None
@@ -44,12 +55,11 @@ fields_pass request arrival stanza arrives permits =
 pub granted : (request : Request) (arrival : Arrival) (stanza : Stanza) → Arrives request arrival → Permits stanza request arrival → (number : ℕ) →
     granted_by number stanza arrival ≡ Some (grant_for number stanza request arrival.source)
 granted request arrival stanza arrives permits number =
-    let packs = packed_under request arrival stanza arrives permits in
-    let opened = opened_packed stanza.keys (fields_for request) arrival.datagram packs in
+    let found = first_for request arrival stanza arrives.sent permits.keys in
     let among = served stanza.sources arrival.source permits.source in
     let open_at = not_over stanza.expire arrival.moment permits.last in
-    let passed = served_fields stanza arrival (fields_for request) open_at opened ∙ fields_pass request arrival stanza arrives permits in
-    served_by number stanza arrival None among passed ∙ served_grant number stanza arrival (fields_for request) opened
+    let passed = served_fields stanza arrival (fields_for request) open_at found ∙ fields_pass request arrival stanza arrives permits in
+    served_by number stanza arrival None among passed ∙ served_grant number stanza arrival (fields_for request) found
 
 -- in a file
 

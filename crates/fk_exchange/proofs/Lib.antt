@@ -1,4 +1,5 @@
 pub mod Conditions
+pub mod FirstKeys
 pub mod Granted
 pub mod Permitted
 pub mod Shapes

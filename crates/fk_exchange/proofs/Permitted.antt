@@ -1,4 +1,4 @@
--- A request that a stanza with its keys grants is one that the stanza permits.
+-- A request that a stanza grants under its keys is one that the stanza permits.
 use Rattle.std.proofs.Common.{◌≡◌, ◌≢◌, ℕ, ◌+◌, ◌-◌, ◌≤◌, Bool, true, false, not, ◌&&◌, List, Option, Some, None, refl, sym, subst, ◌∙◌, arith, if◌then◌else◌}
 use Rattle.std.specs.Prelude.{◌==◌, nat_le, is_none, IfSome, All, Contains}
 use Rattle.std.specs.Int.{abs_diff}
@@ -13,26 +13,24 @@ use Rattle.fk_base.specs.FirstFailed.{first_failed}
 use Rattle.fk_base.specs.Net.{covers}
 use Rattle.fk_base.specs.declared.address.Ip4.{Ip4}
 use Rattle.fk_base.specs.declared.grant.Grant.{Grant}
-use Rattle.fk_base.specs.declared.keys.Keys.{Keys}
 use Rattle.fk_base.specs.declared.pair.Pair.{Pair}
 use Rattle.fk_fields.specs.Fields.{asked_ip, asked_pairs}
 use Rattle.fk_codec.proofs.TestLists.{all_hold}
-use Rattle.fk_packet.specs.Packs.{Packs}
-use Rattle.fk_packet.proofs.Law.{opened_packed}
 use Rattle.fk_access.specs.declared.sources.Sources.{Sources}
 use Rattle.fk_access.specs.declared.sources.Sources.TheVariants.{Any as AnySource, Nets}
 use Rattle.fk_access.specs.declared.stanza.Stanza.{Stanza}
-use Rattle.fk_admit.specs.Admit.{grant_of, granted_by}
+use Rattle.fk_admit.specs.Admit.{fields_by, grant_of, granted_by}
 use Rattle.fk_admit.specs.Arrival.{Arrival}
-use Rattle.fk_admit.specs.Conditions.{field_tests, is_in, is_open_at, may_open, serves, served_tests, tests}
-use Rattle.fk_admit.specs.KeyConditions.{fields_under}
+use Rattle.fk_admit.specs.Conditions.{field_tests, is_in, is_open_at, may_open, picked_by, serves, served_tests, tests}
 use Rattle.fk_admit.specs.declared.refusal.Refusal.{Refusal}
 use Rattle.fk_admit.specs.declared.refusal.Refusal.TheVariants.{NoStanza}
 use Rattle.fk_admit.proofs.OneStanza.{served_fields}
 use Rattle.fk_client.specs.Sent.{fields_of}
 use Rattle.fk_exchange.specs.Permits.{IsAmong, IsOpenTo, Permits}
 use Rattle.fk_exchange.specs.Request.{Arrives, IsDatagramOf, Request}
-use Rattle.fk_exchange.proofs.Conditions.{found, listed}
+use Rattle.fk_exchange.proofs.Conditions.{found as found_in, listed}
+use Rattle.fk_exchange.proofs.FirstKeys.{picked_is_first}
+use Rattle.fk_exchange.proofs.Granted.{first_for}
 
 -- each condition
 
@@ -63,7 +61,7 @@ names_one true ip is needed = λ none. absurd (let no : true ≡ false = sym (eq
 
 allowed : (list : Option (List Pair)) (pair : Pair) → option_map_or (λ pairs. is_in pairs pair) list true ≡ true → IfSome list (λ pairs. Contains pairs pair)
 allowed None pair is = tt
-allowed (Some pairs) pair is = found pairs pair is
+allowed (Some pairs) pair is = found_in pairs pair is
 
 not_barred : (list : Option (List Pair)) (pair : Pair) → option_map_or (λ pairs. is_in pairs pair) list false ≡ false → IfSome list (λ pairs. ¬ Contains pairs pair)
 not_barred None pair is = tt
@@ -89,20 +87,21 @@ others_pass : (holds : Bool) (others : Option Refusal) → (if holds then others
 others_pass true others none = (refl, none)
 others_pass false others none = cc
 
-pub permitted : (request : Request) (arrival : Arrival) (stanza : Stanza) → IsDatagramOf request arrival.datagram → stanza.keys ≡ request.settings.keys →
-    (number : ℕ) (grant : Grant) → granted_by number stanza arrival ≡ Some grant → Arrives request arrival × Permits stanza request arrival
-permitted request arrival stanza sent keys number grant is =
+pub permitted : (request : Request) (arrival : Arrival) (stanza : Stanza) → IsDatagramOf request arrival.datagram →
+    picked_by stanza arrival ≡ Some request.settings.keys → (number : ℕ) (grant : Grant) → granted_by number stanza arrival ≡ Some grant →
+    Arrives request arrival × Permits stanza request arrival
+permitted request arrival stanza sent picked_is number grant is =
     let fields = fields_of request.settings request.moment request.drawn in
-    let packs : Packs stanza.keys fields arrival.datagram = subst (λ (k : Keys). Packs k fields arrival.datagram) (sym keys) sent.0 in
-    let opened = opened_packed stanza.keys fields arrival.datagram packs in
-    let none = none_failed (first_failed (tests stanza arrival)) (option_map (grant_of number stanza arrival) (fields_under stanza.keys arrival.datagram)) grant is in
+    let first = picked_is_first stanza.ring request.settings.keys arrival picked_is in
+    let found = first_for request arrival stanza sent first in
+    let none = none_failed (first_failed (tests stanza arrival)) (option_map (grant_of number stanza arrival) (fields_by stanza arrival)) grant is in
     let serving = others_pass (serves stanza.sources arrival.source) (first_failed (served_tests stanza arrival)) none in
     let not_over : is_open_at stanza.expire arrival.moment ≡ true = (all_hold (served_tests stanza arrival) serving.1).0 in
-    let hold = all_hold (field_tests stanza arrival fields) (sym (served_fields stanza arrival fields not_over opened) ∙ serving.1) in
+    let hold = all_hold (field_tests stanza arrival fields) (sym (served_fields stanza arrival fields not_over found) ∙ serving.1) in
     let age = within arrival.moment request.moment arrival.age hold.0 in
     let arrives : Arrives request arrival = record { sent = sent; not_late = age.late; not_early = age.early } in
     let permits : Permits stanza request arrival = record {
-      keys = keys;
+      keys = first;
       source = among stanza.sources arrival.source serving.0;
       last = within_last stanza.expire arrival.moment not_over;
       user = user_is stanza.user request.settings.user hold.1.0;

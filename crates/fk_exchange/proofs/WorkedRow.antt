@@ -71,7 +71,7 @@ stanza = record {
   sources = AnySource;
   allowed = Some pairs;
   barred = None;
-  keys = keys;
+  ring = record { keys = keys; until = None } ∷ [];
   user = None;
   need_source = true;
   expire = None;
@@ -88,7 +88,14 @@ both_open = All-from_recursion (IsOpenTo stanza) pairs (
 
 permits : (moment : ℕ) (drawn : List ℕ) (arrival : Arrival) → Permits stanza (request moment drawn) arrival
 permits moment drawn arrival = record {
-  keys = refl;
+  keys = record {
+    place = 0;
+    timed = record { keys = keys; until = None };
+    here = refl;
+    keys_are = refl;
+    in_use = tt;
+    no_earlier = λ earlier other lt is. absurd (let wrong : ⊥ = omega arith in wrong);
+  };
   source = tt;
   last = tt;
   user = tt;

@@ -3,6 +3,7 @@ ghost use Rattle.fk_base.specs.declared.grant.Grant.{Grant};
 ghost use Rattle.fk_access.specs.declared.stanza.Stanza.{Stanza};
 ghost use Rattle.fk_admit.specs.Admit.{granted_by};
 ghost use Rattle.fk_admit.specs.Arrival.{Arrival};
+ghost use Rattle.fk_admit.specs.Conditions.{picked_by};
 ghost use Rattle.fk_exchange.specs.Granted.{grant_for, IsLetIn};
 ghost use Rattle.fk_exchange.specs.Permits.{Permits};
 ghost use Rattle.fk_exchange.specs.Request.{Arrives, IsDatagramOf, Request};
@@ -23,10 +24,10 @@ pub fn what_is_permitted_is_granted()
         → (access : List Stanza) (place : ℕ) → slice_get access place ≡ Some stanza → IsLetIn access place arrival }
 {}
 
-/// A stanza that has the keys of a request grants it in no other case.
+/// A stanza grants a request under its keys in no other case.
 pub fn only_what_is_permitted_is_granted()
     ensures { (request : Request) (arrival : Arrival) (stanza : Stanza) → IsDatagramOf request arrival.datagram
-        → stanza.keys ≡ request.settings.keys → (number : ℕ) (grant : Grant) → granted_by number stanza arrival ≡ Some grant
+        → picked_by stanza arrival ≡ Some request.settings.keys → (number : ℕ) (grant : Grant) → granted_by number stanza arrival ≡ Some grant
         → Arrives request arrival × Permits stanza request arrival }
 {}
 

@@ -1,4 +1,5 @@
 pub mod Shape
 pub mod Packs
 pub mod Opens
+pub mod Pick
 pub mod Private

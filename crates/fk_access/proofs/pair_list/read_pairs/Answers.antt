@@ -1,5 +1,3 @@
-use Rattle.std.proofs.Common.{length, sym, ap, ◌∙◌, arith}
-use Rattle.std.proofs.lemmas.Grind.{common_steps}
 use Rattle.fk_values.specs.Values.{items_of}
 use Rattle.fk_values.proofs.PairsRead.{pairs_end}
 use Rattle.fk_access.proofs.pair_list.read_pairs.Goals as goal
