@@ -3,10 +3,11 @@ use Rattle.std.specs.Prelude.{◌≡◌, ℕ, ◌+◌, ◌-◌, ◌<◌, ◌≤�
 use Rattle.std.specs.List.{AllPairs, AllByRecursion}
 use Rattle.fk_trace.specs.declared.change.Change.{Change}
 use Rattle.fk_trace.specs.Trace.{Item}
+use Rattle.fk_host.specs.declared.disk.Area.{Area}
 use Rattle.fk_host.specs.declared.disk.Disk.{Ghosts as DiskMeaning}
 use Rattle.fk_host.specs.Disk.{Areas, Told, Above, IfTold, KeepsPast}
 use Rattle.fk_run.specs.Left.{IsCutAt}
-use Rattle.fk_journal.specs.Keeps.{LeavesOthers}
+use Rattle.fk_journal.specs.Keeps.{StandsOn, LeavesOthers}
 use Rattle.fk_ledger.specs.Holds.{HoldsState}
 
 -- what a host says of itself
@@ -27,6 +28,10 @@ view_of means host =
 -- so many calls of the host were made
 abbrev pub MakesCalls : ℕ → View → View → Type 0
 MakesCalls count old new = IfTold old.told new.told (λ before later. later.moments ≡ before.moments + count)
+
+-- Head selects this area, where the host tells
+abbrev pub StandsOnArea : Area → View → Type 0
+StandsOnArea area view = StandsOn area view.told
 
 -- the calls leave the areas on which the ledger does not stand, in what a read gives and in what a crash may leave
 abbrev pub SparesOthers : View → View → Type 0

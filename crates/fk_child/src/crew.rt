@@ -7,6 +7,7 @@ ghost use Rattle.fk_cycle.specs.Kept.{may_begin};
 ghost use Rattle.fk_cycle.specs.Stands.{Stands};
 ghost use Rattle.fk_host.specs.Count.{HasCause};
 ghost use Rattle.fk_host.specs.Disk.{Above};
+ghost use Rattle.fk_journal.specs.Keeps.{StandsOn};
 ghost use Rattle.fk_ledger.specs.Book.{live_ids};
 ghost use Rattle.fk_child.specs.Crew.{on_host, obligations_but, IsTied, StandsSomewhere, StandsOver};
 ghost use Rattle.fk_child.specs.Calls.{AtEach, AtEachOver, MarksTurn, PollsAll, SettlesNext, AwaitsSomewhere, StartsOpen, Attempts, StartsClose};
@@ -193,6 +194,7 @@ impl Crew {
     ) -> Result<Option<u64>, Failed>
         requires unspent { ledger.old.is_spent ≡ false }
         requires stands { let on = on_host H.Disk in StandsOver ledger.old.changes (on self.old host.old) }
+        requires area { StandsOn ledger.old.area (H.told host.old) }
         ensures settles { let on = on_host H.Disk in
             AtEachOver ledger.old.changes (SettlesNext ledger.old ledger.new result) (on self.old host.old) (on self.new host.new) }
         ensures none { result ≡ Ok None → host.new ≡ host.old }

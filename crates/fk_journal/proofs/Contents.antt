@@ -5,7 +5,7 @@ use Rattle.std.proofs.lemmas.Nat.{be_bytes_4, from_be_bytes-to_be_bytes_4}
 use Rattle.std.proofs.lemmas.List.{append_assoc, length-append, length-take, length-take-le, take_at, drop_at, take-append-drop, drop_more, drop-drop, length-drop, get_or-take, get_or_past}
 use Rattle.std.proofs.lemmas.Bool.{cases_lt}
 use Rattle.fk_journal.specs.declared.entry.Entry.{Entry}
-use Rattle.fk_journal.specs.Entries.{Content, IsContent, body, entry_bytes, entries_bytes, place_behind, content_of_entry, contents_of, ArePlacedFrom, BeginsWith, IsClosedBehind, IsDamagedAt}
+use Rattle.fk_journal.specs.Entries.{format_byte, Content, IsContent, body, entry_bytes, entries_bytes, place_behind, content_of_entry, contents_of, ArePlacedFrom, BeginsWith, IsClosedBehind, IsDamagedAt}
 use Rattle.fk_journal.proofs.Tails.{front, length_4, entries-push, all-push, place_behind-push}
 
 -- the bytes begin with no entry
@@ -71,8 +71,8 @@ found bytes rest kind size long small rest_is size_is within =
 
 -- one entry more
 pub next_entry : (contents : List Content) (content : Content) (bytes : List ℕ) (at gate : ℕ) (more : List ℕ) → at ≡ place_behind contents → at < length bytes
-    → BeginsWith contents (drop at bytes) bytes → get_or bytes at 0 ≡ 1 → IsContent content → drop (at + 1) bytes ≡ body content ++ gate ∷ more
-    → BeginsWith (contents ++ content ∷ []) (drop (at + (6 + length content.payload)) bytes) bytes
+    → BeginsWith format_byte contents (drop at bytes) bytes → get_or bytes at 0 ≡ 1 → IsContent content → drop (at + 1) bytes ≡ body content ++ gate ∷ more
+    → BeginsWith format_byte (contents ++ content ∷ []) (drop (at + (6 + length content.payload)) bytes) bytes
     × (at + (6 + length content.payload) < length bytes) × (at + (6 + length content.payload) ≡ place_behind (contents ++ content ∷ []))
 next_entry contents content bytes at gate more at_is inside begins is_open one behind =
     let here : drop at bytes ≡ entry_bytes content ++ gate ∷ more = drop_more bytes at 0 inside ∙ ap (λ g. g ∷ drop (at + 1) bytes) is_open ∙ ap (λ r. 1 ∷ r) behind in
@@ -98,12 +98,12 @@ placed-push place (e ∷ es) entry placed is = (
 )
 
 -- behind these entries stands a gate that isn't open
-pub closed_here : (contents : List Content) (bytes : List ℕ) (at : ℕ) → at < length bytes → BeginsWith contents (drop at bytes) bytes → (get_or bytes at 0 ≡ 1 → ⊥) → IsClosedBehind contents bytes
+pub closed_here : (contents : List Content) (bytes : List ℕ) (at : ℕ) → at < length bytes → BeginsWith format_byte contents (drop at bytes) bytes → (get_or bytes at 0 ≡ 1 → ⊥) → IsClosedBehind contents bytes
 closed_here contents bytes at inside begins closed =
     (get_or bytes at 0, drop (at + 1) bytes, closed, record { each = begins.each; bytes = begins.bytes ∙ ap (λ r. front contents ++ r) (drop_more bytes at 0 inside) })
 
 -- behind these entries stands an open gate and no entry
-pub damaged_here : (contents : List Content) (bytes : List ℕ) (at : ℕ) → 3 ≤ length bytes → at ≡ place_behind contents → at < length bytes → BeginsWith contents (drop at bytes) bytes → get_or bytes at 0 ≡ 1
+pub damaged_here : (contents : List Content) (bytes : List ℕ) (at : ℕ) → 3 ≤ length bytes → at ≡ place_behind contents → at < length bytes → BeginsWith format_byte contents (drop at bytes) bytes → get_or bytes at 0 ≡ 1
     → NoContent (drop (at + 1) bytes) → IsDamagedAt bytes at
 damaged_here contents bytes at long at_is inside begins is_open none = (
   long,

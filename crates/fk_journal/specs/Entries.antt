@@ -38,14 +38,14 @@ pub record IsContent (content : Content) : Type 0 where
   pub kind : (content.kind ≡ 1) ⊎ (content.kind ≡ 2)
   pub size : length content.payload < 2 ^ 32
 
--- the area has the format, then these entries, and then these bytes
-pub record BeginsWith (contents : List Content) (rest area : List ℕ) : Type 0 where
+-- the area has this format, then these entries, and then these bytes
+pub record BeginsWith (format : ℕ) (contents : List Content) (rest area : List ℕ) : Type 0 where
   pub each : AllByRecursion IsContent contents
-  pub bytes : area ≡ format_byte ∷ entries_bytes contents ++ rest
+  pub bytes : area ≡ format ∷ entries_bytes contents ++ rest
 
 -- the area has the format, these entries and a gate that is not open; what stands behind that gate says nothing
 abbrev pub IsClosedBehind : List Content → List ℕ → Type 0
-IsClosedBehind contents area = (gate : ℕ) × (rest : List ℕ) × (gate ≢ 1) × BeginsWith contents (gate ∷ rest) area
+IsClosedBehind contents area = (gate : ℕ) × (rest : List ℕ) × (gate ≢ 1) × BeginsWith format_byte contents (gate ∷ rest) area
 
 -- which entries an area holds: none where it is shorter than three bytes, and else those before its first gate that is not open
 abbrev pub HoldsEntries : List ℕ → List Content → Type 0
@@ -59,7 +59,7 @@ IsBrokenGate bytes = (rest : List ℕ) × (bytes ≡ 1 ∷ rest)
 -- the first place at which an area is not in the format: its first byte, or the gate of the first entry that is none
 abbrev pub IsDamagedAt : List ℕ → ℕ → Type 0
 IsDamagedAt area place = (3 ≤ length area) × (((slice_index area 0 ≢ format_byte) × (place ≡ 0))
-    ⊎ ((contents : List Content) × (rest : List ℕ) × BeginsWith contents rest area × IsBrokenGate rest × (place ≡ place_behind contents)))
+    ⊎ ((contents : List Content) × (rest : List ℕ) × BeginsWith format_byte contents rest area × IsBrokenGate rest × (place ≡ place_behind contents)))
 
 -- what entries say that were read with the places of their gates
 abbrev pub content_of_entry : Entry → Content

@@ -1,3 +1,4 @@
 pub mod Entries
+pub mod Head
 pub mod Keeps
 pub mod Puts

@@ -1,5 +1,5 @@
 ghost use Rattle.std.specs.Prelude.{◌≡◌, ℕ, ◌+◌, ◌<◌, ◌≤◌, ◌^◌, ◌∷◌, ◌++◌, [], List, length, drop, slice_index, IfOk, IsErrOf, IfSome, IsNone, vec_capacity};
-ghost use Rattle.fk_journal.specs.Entries.{Content, IsContent, body, place_behind, content_of_entry, contents_of, ArePlacedFrom, IsClosedBehind, BeginsWith, HoldsEntries, IsBrokenGate, IsDamagedAt};
+ghost use Rattle.fk_journal.specs.Entries.{Content, IsContent, body, entry_bytes, place_behind, content_of_entry, contents_of, ArePlacedFrom, IsClosedBehind, BeginsWith, HoldsEntries, IsBrokenGate, IsDamagedAt};
 ghost use Rattle.fk_journal.specs.declared.fault.JournalErr.TheVariants.{Disk};
 
 use crate::JournalErr;
@@ -76,6 +76,20 @@ pub(crate) fn write_behind(buffer: &mut Vec<u8>, kind: u8, payload: &[u8])
     buffer.push_reserved(kind);
     push_all(buffer, payload);
     buffer.push_reserved(0);
+}
+
+/// What is written of an entry that is copied: an open gate, how long its payload is, its kind, and the payload.
+pub(crate) fn write_entry(buffer: &mut Vec<u8>, kind: u8, payload: &[u8])
+    requires size { length payload.now < 2 ^ 32 }
+    requires room { length payload.now + 6 ≤ vec_capacity buffer.old }
+    ensures bytes { buffer.new.items ≡ entry_bytes (record { kind = kind; payload = payload.now }) }
+    ensures capacity { vec_capacity buffer.new ≡ vec_capacity buffer.old }
+{
+    buffer.clear();
+    buffer.push_reserved(1);
+    push_all(buffer, &(payload.len() as u32).to_be_bytes());
+    buffer.push_reserved(kind);
+    push_all(buffer, payload);
 }
 
 /// Appends the bytes, for which there is room.

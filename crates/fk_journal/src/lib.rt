@@ -1,4 +1,5 @@
-//! A journal on one area of a disk: a list of entries that grows by one, whole or not at all, whenever a crash may come.
+//! A journal on one area of a disk: a list of entries that grows by one, whole or not at all, whenever a crash may come. Another list
+//! may be copied into a second area and take its place, whole or not at all; a third area, Head, selects which of the two counts.
 //!
 //! An entry counts once its gate byte is open, and a gate is opened by a write of its own after all behind it is on the disk.
 //! What an entry says is not known here.
@@ -7,6 +8,7 @@
 #![tactic(auto)]
 
 mod area;
+mod copying;
 mod entry;
 mod fault;
 mod journal;

@@ -23,11 +23,9 @@ opening : (ledger : List Change) (whole : Bool) (old new : ℕ → Areas → Typ
 opening ledger whole old new x y opens held all = record {
   past = opens.past;
   unsynced = opens.unsynced;
-  since = opens.since;
-  soon = opens.soon;
   first = opens.first;
   then = record {
-    later = opens.within;
+    later = opens.first.within;
     past = λ k image within. (λ h. h, λ h. h);
     each = λ k image behind upto left. (
       0,

@@ -14,7 +14,7 @@ use Rattle.fk_trace.proofs.Lists.{Contains-cases}
 use Rattle.fk_trace.proofs.Ledgers.{opens-push_open, opens-push_done, dones-push_open, dones-push_done, live-push_open, live-push_done, next_id-push_open, none_at_bound}
 use Rattle.fk_host.specs.Disk.{Areas, Told}
 use Rattle.fk_journal.specs.Entries.{Content, entry_bytes, entries_bytes, place_behind}
-use Rattle.fk_journal.specs.Keeps.{Log, Keeps}
+use Rattle.fk_journal.specs.Keeps.{Log, Keeps, StandsOn}
 use Rattle.fk_ledger.specs.declared.ledger.Ledger.TheInside.{Inside}
 use Rattle.fk_ledger.specs.Payloads.{content_of, ledger_contents, record_bytes, IsRecord}
 use Rattle.fk_ledger.specs.Book.{used, live_ids}
@@ -48,8 +48,8 @@ used-push ledger change =
     let one : sum_by cost (change ∷ []) ≡ cost change = omega arith in
     omega arith
 
-pub journal_keeps : (ledger : List Change) (log : Log) (told : Option Told) (images : ℕ → Areas → Type 0) → used ledger ≡ log.end + 1 → KeepsLedger ledger told images → Keeps log (ledger_contents ledger) told images
-journal_keeps ledger log told images size keeps = record { behind = (let place = used-place ledger in omega arith); held = keeps.held }
+pub journal_keeps : (ledger : List Change) (log : Log) (told : Option Told) (images : ℕ → Areas → Type 0) → used ledger ≡ log.end + 1 → StandsOn log.area told → KeepsLedger ledger told images → Keeps log (ledger_contents ledger) told images
+journal_keeps ledger log told images size stands keeps = record { behind = (let place = used-place ledger in omega arith); stands = stands; held = keeps.held }
 
 -- ---- live records
 

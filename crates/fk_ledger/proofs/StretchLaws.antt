@@ -11,7 +11,7 @@ use Rattle.fk_trace.specs.Ledger.{after, MayFollow, IsLedger, IsLedgerFrom}
 use Rattle.fk_host.specs.Disk.{Areas, Told, IfTold, LeavesAreas}
 use Rattle.fk_journal.proofs.Told.{past_then, if_told_map, if_told_then}
 use Rattle.fk_journal.specs.Entries.{Content, IsClosedBehind, HoldsEntries}
-use Rattle.fk_journal.specs.Keeps.{Log, Keeps, selected_area, selected, IsAppend, IsSettled}
+use Rattle.fk_journal.specs.Keeps.{Log, Keeps, selected, IsAppend, IsSettled}
 use Rattle.fk_ledger.specs.Holds.{HoldsLedger, HoldsState, KeepsLedger}
 use Rattle.fk_ledger.specs.Payloads.{content_of, ledger_contents, IsChange}
 use Rattle.fk_ledger.specs.Stretch.{Stretch}
@@ -171,7 +171,7 @@ left_keeps (Some x) (Some y) ledger old new keeps left = record {
     subst (λ (areas : Areas). IsClosedBehind (ledger_contents ledger) (selected areas)) (sym left.reads) keeps.held.0,
     λ image here.
         let was = keeps.held.1 image (image_before old new x y left image here) in
-        (was.0 ∙ ap selected_area (sym left.reads), was.1 ∙ ap selected (sym left.reads)),
+        (was.0 ∙ ap (λ (areas : Areas). areas.head) (sym left.reads), was.1 ∙ ap selected (sym left.reads)),
   );
 }
 

@@ -4,6 +4,7 @@ use Rattle.std.specs.List.{sum_by}
 use Rattle.fk_trace.specs.declared.change.OpenRecord.{OpenRecord}
 use Rattle.fk_trace.specs.declared.change.Change.{Change}
 use Rattle.fk_trace.specs.Ledger.{live}
+use Rattle.fk_host.specs.declared.disk.Area.{Area}
 use Rattle.fk_ledger.specs.declared.fault.RecordFault.{RecordFault}
 use Rattle.fk_ledger.specs.declared.fault.RecordFault.TheVariants.{Full, Disk}
 use Rattle.fk_ledger.specs.Payloads.{content_of, record_bytes}
@@ -13,6 +14,8 @@ pub record Book : Type 0 where
   pub changes : List Change
   -- how many records may be live at once
   pub limit : ℕ
+  -- the area on which its journal stands
+  pub area : Area
   -- how many bytes the journal may use
   pub room : ℕ
   -- how long the payload of a record's entry may be, so that neither the record nor its end asks for memory

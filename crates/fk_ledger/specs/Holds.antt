@@ -37,8 +37,8 @@ IsLedgerDamagedAt image place = IsDamagedAt (selected image) place ⊎ BreaksAt 
 abbrev pub HoldsState : List Change → Areas → Type 0
 HoldsState ledger image = (held : List Change) × HoldsLedger image held × (state_of held ≡ state_of ledger)
 
--- The disk keeps this ledger: the selected area holds it behind a closed gate, where the disk tells, and nothing of that area
--- is unsynced.
+-- The disk keeps this ledger: the selected area holds it behind a closed gate, where the disk tells, and nothing of that area or of
+-- Head, which selects it, is unsynced.
 pub record KeepsLedger (ledger : List Change) (told : Option Told) (images : ℕ → Areas → Type 0) : Type 0 where
   pub each : AllByRecursion IsChange ledger
   pub follow : IsLedger ledger

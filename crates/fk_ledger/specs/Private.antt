@@ -18,6 +18,7 @@ abbrev pub book_of : Inside → Book
 book_of ledger = record {
   changes = ledger.changes.items;
   limit = ledger.limit;
+  area = ledger.journal.area;
   room = ledger.journal.limit;
   reserved = if nat_le (length ledger.changes.items + ledger.live + 2) (vec_capacity ledger.changes) then min (vec_capacity ledger.payload) ledger.journal.reserved else 0;
   is_spent = ledger.journal.is_spent;

@@ -1,9 +1,10 @@
 -- What a crash at each moment of some calls may leave: a ledger with the first of their changes.
-use Rattle.std.specs.Prelude.{◌≡◌, ℕ, ◌+◌, ◌<◌, ◌≤◌, Bool, true, false, List, [], take}
+use Rattle.std.specs.Prelude.{◌≡◌, ℕ, ◌<◌, ◌≤◌, Bool, true, false, List, [], take}
 use Rattle.fk_trace.specs.declared.change.Change.{Change}
 use Rattle.fk_trace.specs.Ledger.{after}
 use Rattle.fk_host.specs.declared.disk.Disk.{Ghosts as DiskMeaning}
 use Rattle.fk_host.specs.Disk.{Areas, Told, IfTold, KeepsPast}
+use Rattle.fk_journal.specs.Keeps.{UntilSynced}
 use Rattle.fk_ledger.specs.Holds.{HoldsState}
 
 -- A stretch over a ledger with these changes, from one state of the host to a later one. What a crash at an earlier moment may
@@ -26,12 +27,10 @@ abbrev pub StretchUntil : {D : Type 0} → DiskMeaning D → ℕ → D → D →
 StretchUntil disk k old new ledger changes = IfTold (disk.told old) (disk.told new) (λ before later. before.moments ≤ k → k ≤ later.moments
     → Stretch ledger changes false (disk.may_leave old) (disk.may_leave new) before (record later { moments = k }))
 
--- The moments of the opening of a ledger, whose first call syncs the area. Until that call each image is one that stood at entry,
--- and behind it too where it failed; from then on the calls are a stretch without changes.
+-- The moments of the opening of a ledger. Until its first calls, which sync Head and the area that it selects, have ended well each
+-- image is one that stood at entry; from then on the calls are a stretch without changes.
 pub record IsLedgerOpening (ledger : List Change) (whole : Bool) (old new : ℕ → Areas → Type 0) (start finish : Told) : Type 0 where
   pub past : KeepsPast start.moments old new
   pub unsynced : ℕ
-  pub since : start.moments ≤ unsynced
-  pub soon : unsynced ≤ start.moments + 1
-  pub first : (k : ℕ) (image : Areas) → start.moments < k → k ≤ unsynced → new k image → old start.moments image
+  pub first : UntilSynced unsynced old new start finish
   pub then : Stretch ledger [] whole new new (record start { moments = unsynced }) finish

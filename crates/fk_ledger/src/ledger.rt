@@ -9,7 +9,7 @@ ghost use Rattle.fk_trace.specs.declared.change.Change.{Change};
 ghost use Rattle.fk_trace.specs.declared.change.Change.TheVariants.{Open, Done};
 ghost use Rattle.fk_trace.specs.Ledger.{after, live, is_seen, next_id, MayFollow};
 ghost use Rattle.fk_journal.specs.Entries.{area_bytes};
-ghost use Rattle.fk_journal.specs.Keeps.{selected, IsOpening, LeavesOthers, is_disk_fault};
+ghost use Rattle.fk_journal.specs.Keeps.{selected, StandsOn, IsOpening, LeavesOthers, is_disk_fault};
 ghost use Rattle.fk_ledger.specs.Book.{has_room, live_ids, is_disk_record_fault};
 ghost use Rattle.fk_ledger.specs.Holds.{HoldsLedger, IsLedgerDamagedAt, KeepsLedger};
 ghost use Rattle.fk_ledger.specs.Payloads.{record_bytes};
@@ -52,7 +52,7 @@ impl Model for Ledger {
 }
 
 impl Ledger {
-    /// Syncs the journal's area and reads the ledger that it holds, and hands out one `Owed` for each live record, by rising
+    /// Syncs Head and the area that it selects and reads the ledger that it holds, and hands out one `Owed` for each live record, by rising
     /// number. The journal may use `room` bytes, and `live` records may be live at once.
     pub fn open<D: Disk>(
         alloc: Global,
@@ -64,6 +64,7 @@ impl Ledger {
         ensures owed { IfOk result (λ r. r.1.items ≡ live_ids r.0.changes) }
         ensures fresh { IfOk result (λ r. (r.0.room ≡ room) × (r.0.limit ≡ live) × (r.0.is_spent ≡ false)) }
         ensures keeps { IfOk result (λ r. KeepsLedger r.0.changes (D.told disk.new) (D.may_leave disk.new)) }
+        ensures stands { IfOk result (λ r. StandsOn r.0.area (D.told disk.new)) }
         // A short area is made the two bytes of an empty journal.
         ensures made { IfOk result (λ r. IfTold (D.told disk.old) (D.told disk.new) (λ before after.
             length (selected before.areas) < 3 → selected after.areas ≡ area_bytes [])) }
@@ -93,13 +94,13 @@ impl Ledger {
         Ok((ledger, owed))
     }
 
-    /// The ledger that the journal's area holds, which is neither written nor synced.
+    /// The ledger that the selected area holds. Nothing is written or synced.
     pub fn view<D: Disk>(alloc: Global, disk: &mut D) -> Result<Vec<Change>, LedgerErr>
         ensures held { IfOk result (λ changes. IfTold (D.told disk.old) (D.told disk.new) (λ before after. HoldsLedger before.areas changes.items)) }
         ensures damaged { (place : ℕ) → IsErrOf result (LedgerErr.Damaged place) → IfTold (D.told disk.old) (D.told disk.new) (λ before after.
             IsLedgerDamagedAt before.areas place) }
         ensures areas { IfTold (D.told disk.old) (D.told disk.new) (LeavesAreas (D.may_leave disk.old) (D.may_leave disk.new)) }
-        ensures calls { IfTold (D.told disk.old) (D.told disk.new) (λ before after. after.moments ≤ before.moments + 2) }
+        ensures calls { IfTold (D.told disk.old) (D.told disk.new) (λ before after. after.moments ≤ before.moments + 3) }
         ensures host { LeavesHost D.told D.above disk.old disk.new }
         ensures cause { HasCauseBy is_disk_fault (D.faults disk.old) (D.faults disk.new) result }
     {
@@ -164,12 +165,14 @@ impl Ledger {
         requires words { AreCommandWords item.close }
         requires reserved { length (record_bytes item) ≤ self.old.reserved }
         requires keeps { KeepsLedger self.old.changes (D.told disk.old) (D.may_leave disk.old) }
+        requires stands { StandsOn self.old.area (D.told disk.old) }
         ensures ok { OnOk result (self.new ≡ record self.old { changes = after self.old.changes (Open item ∷ []); reserved = self.new.reserved }) }
         ensures owed { IfOk result (λ owed. owed ≡ item.id) }
         ensures full { IsErrOf result RecordFault.Full ↔ (has_room self.old.room self.old.limit self.old.changes item ≡ false) }
         ensures nothing { IsErrOf result RecordFault.Full → (self.new ≡ self.old) × (disk.new ≡ disk.old) }
         ensures spent { IsErrOf result RecordFault.Disk → self.new ≡ record self.old { is_spent = true } }
         ensures keeps { OnOk result (KeepsLedger self.new.changes (D.told disk.new) (D.may_leave disk.new)) }
+        ensures stands { OnOk result (StandsOn self.new.area (D.told disk.new)) }
         // A crash at any moment of the call leaves the ledger from before, with this record or without.
         ensures moments { StretchOf D.Disk disk.old disk.new self.old.changes (Open item ∷ []) (is_ok result) }
         ensures others { IfTold (D.told disk.old) (D.told disk.new) (LeavesOthers (D.may_leave disk.old) (D.may_leave disk.new)) }
@@ -203,9 +206,11 @@ impl Ledger {
         requires same { end ≡ owed }
         requires lives { Contains (live_ids self.old.changes) owed }
         requires keeps { KeepsLedger self.old.changes (D.told disk.old) (D.may_leave disk.old) }
+        requires stands { StandsOn self.old.area (D.told disk.old) }
         ensures ok { OnOk result (self.new ≡ record self.old { changes = after self.old.changes (Done owed ∷ []) }) }
         ensures err { IfErr result (λ e. (e.0 ≡ owed) × (self.new ≡ record self.old { is_spent = true })) }
         ensures keeps { OnOk result (KeepsLedger self.new.changes (D.told disk.new) (D.may_leave disk.new)) }
+        ensures stands { OnOk result (StandsOn self.new.area (D.told disk.new)) }
         // A crash at any moment of the call leaves the ledger from before, with this Done or without.
         ensures moments { StretchOf D.Disk disk.old disk.new self.old.changes (Done owed ∷ []) (is_ok result) }
         ensures others { IfTold (D.told disk.old) (D.told disk.new) (LeavesOthers (D.may_leave disk.old) (D.may_leave disk.new)) }

@@ -8,17 +8,17 @@ use Rattle.fk_journal.proofs.area.put.Goals as goal
 
 pub returns-in_err-write_at-clause-moments : goal.returns-in_err-write_at-clause-moments
 returns-in_err-write_at-clause-moments g c =
-    put_write (g.D.Disk.told c.args.disk.now) (g.D.Disk.told c.write_at.new.self) (g.D.Disk.may_leave c.args.disk.now) (g.D.Disk.may_leave c.write_at.new.self) c.args.at (length c.args.bytes.now) c.in_err-write_at.ensures.err
+    put_write c.args.area (g.D.Disk.told c.args.disk.now) (g.D.Disk.told c.write_at.new.self) (g.D.Disk.may_leave c.args.disk.now) (g.D.Disk.may_leave c.write_at.new.self) c.args.at (length c.args.bytes.now) c.in_err-write_at.ensures.err
 
 pub returns-clause-moments : goal.returns-clause-moments
 returns-clause-moments g c =
-    put_moments (g.D.Disk.told c.args.disk.now) (g.D.Disk.told c.write_at.new.self) (g.D.Disk.told c.sync.new.self) (g.D.Disk.may_leave c.args.disk.now) (g.D.Disk.may_leave c.write_at.new.self) (g.D.Disk.may_leave c.sync.new.self) c.args.at c.args.bytes.now
+    put_moments c.args.area (g.D.Disk.told c.args.disk.now) (g.D.Disk.told c.write_at.new.self) (g.D.Disk.told c.sync.new.self) (g.D.Disk.may_leave c.args.disk.now) (g.D.Disk.may_leave c.write_at.new.self) (g.D.Disk.may_leave c.sync.new.self) c.args.at c.args.bytes.now
     c.in_ok-write_at.ensures.ok
-    (sync_either c.sync.result (g.D.Disk.told c.write_at.new.self) (g.D.Disk.told c.sync.new.self) (g.D.Disk.may_leave c.write_at.new.self) (g.D.Disk.may_leave c.sync.new.self) c.sync.ensures.ok c.sync.ensures.err)
+    (sync_either c.args.area c.sync.result (g.D.Disk.told c.write_at.new.self) (g.D.Disk.told c.sync.new.self) (g.D.Disk.may_leave c.write_at.new.self) (g.D.Disk.may_leave c.sync.new.self) c.sync.ensures.ok c.sync.ensures.err)
 
 pub returns-clause-ok : goal.returns-clause-ok
 returns-clause-ok g c =
-    put_ok c.sync.result (g.D.Disk.told c.args.disk.now) (g.D.Disk.told c.write_at.new.self) (g.D.Disk.told c.sync.new.self) (g.D.Disk.may_leave c.args.disk.now) (g.D.Disk.may_leave c.write_at.new.self) (g.D.Disk.may_leave c.sync.new.self) c.args.at c.args.bytes.now
+    put_ok c.args.area c.sync.result (g.D.Disk.told c.args.disk.now) (g.D.Disk.told c.write_at.new.self) (g.D.Disk.told c.sync.new.self) (g.D.Disk.may_leave c.args.disk.now) (g.D.Disk.may_leave c.write_at.new.self) (g.D.Disk.may_leave c.sync.new.self) c.args.at c.args.bytes.now
     c.in_ok-write_at.ensures.ok c.sync.ensures.ok
 
 pub returns-in_err-write_at-clause-cause : goal.returns-in_err-write_at-clause-cause

@@ -10,43 +10,43 @@ use Rattle.fk_journal.proofs.area.put_entry.Goals as goal
 pub put-requires : goal.put-requires
 put-requires g c =
     let h = c.requires.held in
-    behind_fits (g.D.Disk.told c.args.disk.now) h.0 c.args.gate (g.D.Disk.may_leave c.args.disk.now) h.1 h.2
+    behind_fits c.args.area (g.D.Disk.told c.args.disk.now) h.0 c.args.gate (g.D.Disk.may_leave c.args.disk.now) h.1 h.2
 
 pub put-requires-2 : goal.put-requires-2
 put-requires-2 g c =
     let h = c.requires.held in
-    gate_fits (g.D.Disk.told c.args.disk.now) (g.D.Disk.told c.put.new.disk) h.0 c.args.gate c.args.behind.now (g.D.Disk.may_leave c.args.disk.now) (g.D.Disk.may_leave c.put.new.disk) h.1 h.2 c.in_ok-put.ensures.ok
+    gate_fits c.args.area (g.D.Disk.told c.args.disk.now) (g.D.Disk.told c.put.new.disk) h.0 c.args.gate c.args.behind.now (g.D.Disk.may_leave c.args.disk.now) (g.D.Disk.may_leave c.put.new.disk) h.1 h.2 c.in_ok-put.ensures.ok
 
 pub returns-in_err-put-clause-moments : goal.returns-in_err-put-clause-moments
 returns-in_err-put-clause-moments g c = λ contents content one behind_is gate_is held.
-    entry_torn (g.D.Disk.told c.args.disk.now) (g.D.Disk.told c.put.new.disk) contents content c.args.gate (length c.args.behind.now) (g.D.Disk.may_leave c.args.disk.now) (g.D.Disk.may_leave c.put.new.disk) gate_is held c.put.ensures.moments
+    entry_torn c.args.area (g.D.Disk.told c.args.disk.now) (g.D.Disk.told c.put.new.disk) contents content c.args.gate (length c.args.behind.now) (g.D.Disk.may_leave c.args.disk.now) (g.D.Disk.may_leave c.put.new.disk) gate_is held c.put.ensures.moments
 
 pub returns-in_err-put-clause-others : goal.returns-in_err-put-clause-others
 returns-in_err-put-clause-others g c =
-    put_others (g.D.Disk.told c.args.disk.now) (g.D.Disk.told c.put.new.disk) (c.args.gate + 1) (length c.args.behind.now) (g.D.Disk.may_leave c.args.disk.now) (g.D.Disk.may_leave c.put.new.disk) c.put.ensures.moments
+    put_others c.args.area (g.D.Disk.told c.args.disk.now) (g.D.Disk.told c.put.new.disk) (c.args.gate + 1) (length c.args.behind.now) (g.D.Disk.may_leave c.args.disk.now) (g.D.Disk.may_leave c.put.new.disk) c.put.ensures.moments
 
 pub returns-clause-moments : goal.returns-clause-moments
 returns-clause-moments g c = λ contents content one behind_is gate_is held.
-    let first = first_put (g.D.Disk.told c.args.disk.now) (g.D.Disk.told c.put.new.disk) contents content c.args.gate c.args.behind.now (g.D.Disk.may_leave c.args.disk.now) (g.D.Disk.may_leave c.put.new.disk) behind_is gate_is held c.put.ensures.moments c.in_ok-put.ensures.ok in
-    entry_moments (g.D.Disk.told c.args.disk.now) (g.D.Disk.told c.put.new.disk) (g.D.Disk.told c.put-2.new.disk) contents content c.args.gate (g.D.Disk.may_leave c.args.disk.now) (g.D.Disk.may_leave c.put.new.disk) (g.D.Disk.may_leave c.put-2.new.disk) one gate_is first c.put-2.ensures.moments
+    let first = first_put c.args.area (g.D.Disk.told c.args.disk.now) (g.D.Disk.told c.put.new.disk) contents content c.args.gate c.args.behind.now (g.D.Disk.may_leave c.args.disk.now) (g.D.Disk.may_leave c.put.new.disk) behind_is gate_is held c.put.ensures.moments c.in_ok-put.ensures.ok in
+    entry_moments c.args.area (g.D.Disk.told c.args.disk.now) (g.D.Disk.told c.put.new.disk) (g.D.Disk.told c.put-2.new.disk) contents content c.args.gate (g.D.Disk.may_leave c.args.disk.now) (g.D.Disk.may_leave c.put.new.disk) (g.D.Disk.may_leave c.put-2.new.disk) one gate_is first c.put-2.ensures.moments
 
 pub returns-clause-held : goal.returns-clause-held
 returns-clause-held g c = λ contents content one behind_is gate_is held.
-    let first = first_put (g.D.Disk.told c.args.disk.now) (g.D.Disk.told c.put.new.disk) contents content c.args.gate c.args.behind.now (g.D.Disk.may_leave c.args.disk.now) (g.D.Disk.may_leave c.put.new.disk) behind_is gate_is held c.put.ensures.moments c.in_ok-put.ensures.ok in
-    entry_held c.put-2.result (g.D.Disk.told c.args.disk.now) (g.D.Disk.told c.put.new.disk) (g.D.Disk.told c.put-2.new.disk) contents content c.args.gate (g.D.Disk.may_leave c.args.disk.now) (g.D.Disk.may_leave c.put.new.disk) (g.D.Disk.may_leave c.put-2.new.disk) one gate_is first c.put-2.ensures.ok
+    let first = first_put c.args.area (g.D.Disk.told c.args.disk.now) (g.D.Disk.told c.put.new.disk) contents content c.args.gate c.args.behind.now (g.D.Disk.may_leave c.args.disk.now) (g.D.Disk.may_leave c.put.new.disk) behind_is gate_is held c.put.ensures.moments c.in_ok-put.ensures.ok in
+    entry_held c.args.area c.put-2.result (g.D.Disk.told c.args.disk.now) (g.D.Disk.told c.put.new.disk) (g.D.Disk.told c.put-2.new.disk) contents content c.args.gate (g.D.Disk.may_leave c.args.disk.now) (g.D.Disk.may_leave c.put.new.disk) (g.D.Disk.may_leave c.put-2.new.disk) one gate_is first c.put-2.ensures.moments c.put-2.ensures.ok
 
 pub returns-clause-bytes : goal.returns-clause-bytes
 returns-clause-bytes g c = λ contents content behind_is gate_is held.
-    let first = first_put (g.D.Disk.told c.args.disk.now) (g.D.Disk.told c.put.new.disk) contents content c.args.gate c.args.behind.now (g.D.Disk.may_leave c.args.disk.now) (g.D.Disk.may_leave c.put.new.disk) behind_is gate_is held c.put.ensures.moments c.in_ok-put.ensures.ok in
-    entry_written c.put-2.result (g.D.Disk.told c.args.disk.now) (g.D.Disk.told c.put.new.disk) (g.D.Disk.told c.put-2.new.disk) contents content c.args.gate (g.D.Disk.may_leave c.args.disk.now) (g.D.Disk.may_leave c.put.new.disk) (g.D.Disk.may_leave c.put-2.new.disk) gate_is first c.put-2.ensures.ok
+    let first = first_put c.args.area (g.D.Disk.told c.args.disk.now) (g.D.Disk.told c.put.new.disk) contents content c.args.gate c.args.behind.now (g.D.Disk.may_leave c.args.disk.now) (g.D.Disk.may_leave c.put.new.disk) behind_is gate_is held c.put.ensures.moments c.in_ok-put.ensures.ok in
+    entry_written c.args.area c.put-2.result (g.D.Disk.told c.args.disk.now) (g.D.Disk.told c.put.new.disk) (g.D.Disk.told c.put-2.new.disk) contents content c.args.gate (g.D.Disk.may_leave c.args.disk.now) (g.D.Disk.may_leave c.put.new.disk) (g.D.Disk.may_leave c.put-2.new.disk) gate_is first c.put-2.ensures.ok
 
 pub returns-clause-others : goal.returns-clause-others
 returns-clause-others g c =
-    entry_others (g.D.Disk.told c.args.disk.now) (g.D.Disk.told c.put.new.disk) (g.D.Disk.told c.put-2.new.disk) (c.args.gate + 1) c.args.gate (length c.args.behind.now) 1 (g.D.Disk.may_leave c.args.disk.now) (g.D.Disk.may_leave c.put.new.disk) (g.D.Disk.may_leave c.put-2.new.disk) c.put.ensures.moments c.put-2.ensures.moments
+    entry_others c.args.area (g.D.Disk.told c.args.disk.now) (g.D.Disk.told c.put.new.disk) (g.D.Disk.told c.put-2.new.disk) (c.args.gate + 1) c.args.gate (length c.args.behind.now) 1 (g.D.Disk.may_leave c.args.disk.now) (g.D.Disk.may_leave c.put.new.disk) (g.D.Disk.may_leave c.put-2.new.disk) c.put.ensures.moments c.put-2.ensures.moments
 
 pub returns-clause-calls : goal.returns-clause-calls
 returns-clause-calls g c =
-    entry_calls c.put-2.result (g.D.Disk.told c.args.disk.now) (g.D.Disk.told c.put.new.disk) (g.D.Disk.told c.put-2.new.disk) (c.args.gate + 1) c.args.gate c.args.behind.now (1 ∷ []) (g.D.Disk.may_leave c.put.new.disk) (g.D.Disk.may_leave c.put-2.new.disk) c.in_ok-put.ensures.ok c.put-2.ensures.ok
+    entry_calls c.args.area c.args.area c.put-2.result (g.D.Disk.told c.args.disk.now) (g.D.Disk.told c.put.new.disk) (g.D.Disk.told c.put-2.new.disk) (c.args.gate + 1) c.args.gate c.args.behind.now (1 ∷ []) (g.D.Disk.may_leave c.put.new.disk) (g.D.Disk.may_leave c.put-2.new.disk) c.in_ok-put.ensures.ok c.put-2.ensures.ok
 
 pub returns-in_err-put-clause-cause : goal.returns-in_err-put-clause-cause
 returns-in_err-put-clause-cause g c =

@@ -1,7 +1,7 @@
 use Rattle.std.proofs.Common.{◌≡◌, ℕ, ◌+◌, List, [], ◌∷◌, ◌++◌, length, drop, ap, ◌∙◌, sym, subst}
 use Rattle.std.proofs.lemmas.List.{map_push, take_rest}
 use Rattle.fk_journal.specs.declared.entry.Entry.{Entry}
-use Rattle.fk_journal.specs.Entries.{Content, content_of_entry, contents_of, ArePlacedFrom, BeginsWith, place_behind}
+use Rattle.fk_journal.specs.Entries.{format_byte, Content, content_of_entry, contents_of, ArePlacedFrom, BeginsWith, place_behind}
 use Rattle.fk_journal.proofs.Contents.{next_entry, placed-push}
 use Rattle.fk_journal.proofs.entry.entries_of.Goals as goal
 
@@ -19,7 +19,7 @@ loop-at-preserved c =
     let r = next_entry (contents_of entries) content bytes at f.0 f.1 c.loop-at.invariant.place c.loop-at.invariant.inside c.loop-at.invariant.begins c.loop-at-test.true f.2 (sym (take_rest bytes (at + 1)) ∙ f.3) in
     record {
       inside = r.1;
-      begins = subst (λ (cs : List Content). BeginsWith cs (drop (at + (6 + length c.in-Some.payload.now)) bytes) bytes) (sym contents_are) r.0;
+      begins = subst (λ (cs : List Content). BeginsWith format_byte cs (drop (at + (6 + length c.in-Some.payload.now)) bytes) bytes) (sym contents_are) r.0;
       place = r.2 ∙ ap place_behind (sym contents_are);
       placed = subst (ArePlacedFrom 1) (sym c.in_ok-push.ensures.items) (placed-push 1 entries entry c.loop-at.invariant.placed c.loop-at.invariant.place);
     }

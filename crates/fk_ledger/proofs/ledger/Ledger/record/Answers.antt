@@ -5,6 +5,8 @@ use Rattle.fk_trace.specs.Ledger.{IsLedger, next_id}
 use Rattle.fk_journal.specs.Entries.{Content, IsContent}
 use Rattle.fk_ledger.specs.Payloads.{ledger_contents, record_bytes}
 use Rattle.fk_ledger.specs.Book.{Book, used}
+use Rattle.fk_host.specs.declared.disk.Area.{Area}
+use Rattle.fk_journal.specs.Keeps.{StandsOn}
 use Rattle.fk_ledger.specs.Holds.{KeepsLedger}
 use Rattle.fk_ledger.proofs.RoomLaws.{journal_keeps, order_opened, slots, long_record, small_record}
 use Rattle.fk_ledger.proofs.StretchLaws.{ok_append, err_append}
@@ -21,11 +23,13 @@ append-requires-clause-content g c =
 pub append-requires-clause-keeps : goal.append-requires-clause-keeps
 append-requires-clause-keeps g c =
     let changes : c.self.inside.changes.items ≡ c.args.self.now.changes = ap (λ (b : Book). b.changes) c.self.view_is in
-    (ledger_contents c.args.self.now.changes, journal_keeps c.args.self.now.changes c.self.inside.journal (g.D.Disk.told c.args.disk.now) (g.D.Disk.may_leave c.args.disk.now) (ap used (sym changes) ∙ c.self.invariant.used) c.requires.keeps)
+    let stands : StandsOn c.self.inside.journal.area (g.D.Disk.told c.args.disk.now) = subst (λ (area : Area). StandsOn area (g.D.Disk.told c.args.disk.now)) (sym (ap (λ (b : Book). b.area) c.self.view_is)) c.requires.stands in
+    (ledger_contents c.args.self.now.changes, journal_keeps c.args.self.now.changes c.self.inside.journal (g.D.Disk.told c.args.disk.now) (g.D.Disk.may_leave c.args.disk.now) (ap used (sym changes) ∙ c.self.invariant.used) stands c.requires.keeps)
 
 pub invariant_of-self : goal.invariant_of-self
 invariant_of-self g c =
     let changes : c.self.inside.changes.items ≡ c.args.self.now.changes = ap (λ (b : Book). b.changes) c.self.view_is in
+    let stands : StandsOn c.self.inside.journal.area (g.D.Disk.told c.args.disk.now) = subst (λ (area : Area). StandsOn area (g.D.Disk.told c.args.disk.now)) (sym (ap (λ (b : Book). b.area) c.self.view_is)) c.requires.stands in
     let bytes : c.deref.result.now ≡ record_bytes c.args.item = c.deref.ensures.value ∙ c.write_record.ensures.bytes in
     order_opened c.self.inside c.append.new.self c.push_reserved.new.self c.write_record.new.buffer c.args.item (length c.deref.result.now) c.self.invariant (subst IsLedger (sym changes) c.requires.keeps.follow)
     (c.requires.next.0 ∙ ap next_id (sym changes)) (ap length bytes) c.in-Ok.ensures.ok c.push_reserved.ensures.items c.push_reserved.ensures.capacity
@@ -35,8 +39,9 @@ pub returns-in-Ok-clause-keeps : goal.returns-in-Ok-clause-keeps
 returns-in-Ok-clause-keeps g c =
     let ledger : List Change = c.args.self.now.changes in
     let changes : c.self.inside.changes.items ≡ ledger = ap (λ (b : Book). b.changes) c.self.view_is in
+    let stands : StandsOn c.self.inside.journal.area (g.D.Disk.told c.args.disk.now) = subst (λ (area : Area). StandsOn area (g.D.Disk.told c.args.disk.now)) (sym (ap (λ (b : Book). b.area) c.self.view_is)) c.requires.stands in
     let bytes : c.deref.result.now ≡ record_bytes c.args.item = c.deref.ensures.value ∙ c.write_record.ensures.bytes in
-    let old = journal_keeps ledger c.self.inside.journal (g.D.Disk.told c.args.disk.now) (g.D.Disk.may_leave c.args.disk.now) (ap used (sym changes) ∙ c.self.invariant.used) c.requires.keeps in
+    let old = journal_keeps ledger c.self.inside.journal (g.D.Disk.told c.args.disk.now) (g.D.Disk.may_leave c.args.disk.now) (ap used (sym changes) ∙ c.self.invariant.used) stands c.requires.keeps in
     let both = ok_append ledger (Open c.args.item) (open_content c.deref.result.now) c.append.new.self (g.D.Disk.told c.args.disk.now) (g.D.Disk.told c.append.new.disk) (g.D.Disk.may_leave c.args.disk.now) (g.D.Disk.may_leave c.append.new.disk)
     (ap open_content (sym bytes)) c.requires.keeps c.write_record.ensures.values c.requires.next (c.in-Ok.ensures.keeps (ledger_contents ledger) old) (c.in-Ok.ensures.moments (ledger_contents ledger) old) in
     let items : c.push_reserved.new.self.items ≡ ledger ++ Open c.args.item ∷ [] = c.push_reserved.ensures.items ∙ ap (λ (x : List Change). x ++ Open c.args.item ∷ []) changes in
@@ -46,8 +51,9 @@ pub returns-in-Ok-clause-moments : goal.returns-in-Ok-clause-moments
 returns-in-Ok-clause-moments g c =
     let ledger : List Change = c.args.self.now.changes in
     let changes : c.self.inside.changes.items ≡ ledger = ap (λ (b : Book). b.changes) c.self.view_is in
+    let stands : StandsOn c.self.inside.journal.area (g.D.Disk.told c.args.disk.now) = subst (λ (area : Area). StandsOn area (g.D.Disk.told c.args.disk.now)) (sym (ap (λ (b : Book). b.area) c.self.view_is)) c.requires.stands in
     let bytes : c.deref.result.now ≡ record_bytes c.args.item = c.deref.ensures.value ∙ c.write_record.ensures.bytes in
-    let old = journal_keeps ledger c.self.inside.journal (g.D.Disk.told c.args.disk.now) (g.D.Disk.may_leave c.args.disk.now) (ap used (sym changes) ∙ c.self.invariant.used) c.requires.keeps in
+    let old = journal_keeps ledger c.self.inside.journal (g.D.Disk.told c.args.disk.now) (g.D.Disk.may_leave c.args.disk.now) (ap used (sym changes) ∙ c.self.invariant.used) stands c.requires.keeps in
     (ok_append ledger (Open c.args.item) (open_content c.deref.result.now) c.append.new.self (g.D.Disk.told c.args.disk.now) (g.D.Disk.told c.append.new.disk) (g.D.Disk.may_leave c.args.disk.now) (g.D.Disk.may_leave c.append.new.disk)
     (ap open_content (sym bytes)) c.requires.keeps c.write_record.ensures.values c.requires.next (c.in-Ok.ensures.keeps (ledger_contents ledger) old) (c.in-Ok.ensures.moments (ledger_contents ledger) old)).1
 
@@ -55,7 +61,16 @@ pub returns-in-Err-clause-moments : goal.returns-in-Err-clause-moments
 returns-in-Err-clause-moments g c =
     let ledger : List Change = c.args.self.now.changes in
     let changes : c.self.inside.changes.items ≡ ledger = ap (λ (b : Book). b.changes) c.self.view_is in
+    let stands : StandsOn c.self.inside.journal.area (g.D.Disk.told c.args.disk.now) = subst (λ (area : Area). StandsOn area (g.D.Disk.told c.args.disk.now)) (sym (ap (λ (b : Book). b.area) c.self.view_is)) c.requires.stands in
     let bytes : c.deref.result.now ≡ record_bytes c.args.item = c.deref.ensures.value ∙ c.write_record.ensures.bytes in
-    let old = journal_keeps ledger c.self.inside.journal (g.D.Disk.told c.args.disk.now) (g.D.Disk.may_leave c.args.disk.now) (ap used (sym changes) ∙ c.self.invariant.used) c.requires.keeps in
+    let old = journal_keeps ledger c.self.inside.journal (g.D.Disk.told c.args.disk.now) (g.D.Disk.may_leave c.args.disk.now) (ap used (sym changes) ∙ c.self.invariant.used) stands c.requires.keeps in
     err_append ledger (Open c.args.item) (open_content c.deref.result.now) (g.D.Disk.told c.args.disk.now) (g.D.Disk.told c.append.new.disk) (g.D.Disk.may_leave c.args.disk.now) (g.D.Disk.may_leave c.append.new.disk)
     (ap open_content (sym bytes)) c.requires.keeps c.write_record.ensures.values c.requires.next (c.in-Err.ensures.moments (ledger_contents ledger) old)
+
+pub returns-in-Ok-clause-stands : goal.returns-in-Ok-clause-stands
+returns-in-Ok-clause-stands g c =
+    let ledger : List Change = c.args.self.now.changes in
+    let changes : c.self.inside.changes.items ≡ ledger = ap (λ (b : Book). b.changes) c.self.view_is in
+    let stands : StandsOn c.self.inside.journal.area (g.D.Disk.told c.args.disk.now) = subst (λ (area : Area). StandsOn area (g.D.Disk.told c.args.disk.now)) (sym (ap (λ (b : Book). b.area) c.self.view_is)) c.requires.stands in
+    let old = journal_keeps ledger c.self.inside.journal (g.D.Disk.told c.args.disk.now) (g.D.Disk.may_leave c.args.disk.now) (ap used (sym changes) ∙ c.self.invariant.used) stands c.requires.keeps in
+    (c.in-Ok.ensures.keeps (ledger_contents ledger) old).stands
