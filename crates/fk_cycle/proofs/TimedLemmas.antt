@@ -1,18 +1,17 @@
 -- What waits in the timer is what the records kept are due at, and the first of them that may be closed.
-use Rattle.std.proofs.Common.{◌≡◌, ℕ, ◌<◌, ◌≤◌, Bool, true, false, not, ◌==◌, ◌&&◌, cond, List, [], ◌∷◌, ◌++◌, length, map, take, drop, Option, Some, None, ◌⊎◌, inl, inr, refl, sym, ap, ◌∙◌, subst, arith}
+use Rattle.std.proofs.Common.{◌≡◌, ℕ, ◌<◌, Bool, true, false, not, ◌==◌, ◌&&◌, cond, List, [], ◌∷◌, ◌++◌, map, take, drop, Option, Some, None, ◌⊎◌, inl, inr, refl, sym, ap, ◌∙◌, subst, arith}
 use Rattle.std.specs.Prelude.{nat_le, is_none}
 use Rattle.std.specs.List.{filter, find, position_or_len, All, Contains}
 use Rattle.std.specs.Option.{option_map}
 use Rattle.std.proofs.lemmas.Bool.Decides.{nat_tests}
 use Rattle.std.proofs.lemmas.Bool.{eqb-true, eq-eqb, eqb-false, and_parts, false_from_ne_true}
-use Rattle.std.proofs.lemmas.List.{take-append-drop, take_all, drop_all, append-nil, length-map, take-append-le}
+use Rattle.std.proofs.lemmas.List.{take-append-drop}
 use Rattle.std.proofs.lemmas.List.Elements.{All-contains, Contains-append_left, Contains-append_right, Contains-append_cases, Contains-push, Contains-push_cases}
 use Rattle.fk_base.specs.declared.purpose.Purpose.{Purpose}
 use Rattle.fk_base.specs.declared.purpose.Purpose.TheVariants.{Open, Close}
 use Rattle.fk_trace.specs.Idle.{ended_well, rests}
 use Rattle.fk_trace.proofs.Lists.{Contains-head, Contains-tail, Contains-cases, Contains-filter, Contains-map, list_any-at, list_any-from, list_any-none, list_any-map, find-at, All-by}
-use Rattle.fk_timer.specs.declared.timer.Entry.{Entry}
-use Rattle.fk_timer.specs.Schedule.{Schedule, precedes, holds, with_entry, without, IsTakenFirst}
+use Rattle.fk_timer.specs.Schedule.{Entry, precedes, holds, with_entry, without, IsTakenFirst}
 use Rattle.fk_cycle.specs.Kept.{Kept, noted_begun, noted_not_begun, noted_ended, is_ready, is_kept}
 use Rattle.fk_cycle.specs.Private.{entry_of, Waits, IsTimed, is_ready_at, IsFirstWaiting}
 use Rattle.fk_cycle.specs.Ranks.{IsFirstReady}
@@ -21,7 +20,7 @@ not_due_yet : (due moment : ℕ) → moment < due → nat_le due moment ≡ fals
 not_due_yet due moment later = grind (arith, nat_tests)
 
 module _ (x : Entry) (entries : List Entry) where
-  Contains-in : (y : Entry) → Contains entries y → Contains (with_entry x entries) y
+  pub Contains-in : (y : Entry) → Contains entries y → Contains (with_entry x entries) y
   Contains-in y m =
       let place = position_or_len (λ other. precedes x other) entries in
       let split : Contains (take place entries ++ drop place entries) y = subst (λ (es : List Entry). Contains es y) (sym (take-append-drop place entries)) m in
@@ -30,12 +29,12 @@ module _ (x : Entry) (entries : List Entry) where
         | inr r ↦ Contains-append_right (take place entries) (x ∷ drop place entries) y (Contains-tail x (drop place entries) y r)
       ]
 
-  Contains-put : Contains (with_entry x entries) x
+  pub Contains-put : Contains (with_entry x entries) x
   Contains-put =
       let place = position_or_len (λ other. precedes x other) entries in
       Contains-append_right (take place entries) (x ∷ drop place entries) x (Contains-head x (drop place entries))
 
-  Contains-out : (y : Entry) → Contains (with_entry x entries) y → (x ≡ y) ⊎ Contains entries y
+  pub Contains-out : (y : Entry) → Contains (with_entry x entries) y → (x ≡ y) ⊎ Contains entries y
   Contains-out y m =
       let place = position_or_len (λ other. precedes x other) entries in
       elim (Contains-append_cases (take place entries) (x ∷ drop place entries) y m) [
@@ -121,16 +120,6 @@ dues-noted f same (kept ∷ machine) =
     let ih = dues-noted f same machine in
     let here = same kept in cc
 
--- a loop that noted something of every record leaves the list with it noted of each
-pub all-written : (f : Kept → Kept) (items start written : List Kept) (len index : ℕ) → start ≡ items → length start ≡ len → length start ≤ index → written ≡ map f (take index start) ++ drop index start
-    → take len (written ++ drop (length written) items) ≡ map f items
-all-written f items start written len index is long all w =
-    let one : map f (take index start) ++ drop index start ≡ map f items =
-    ap (λ (front : List Kept). map f front ++ drop index start) (take_all index start all) ∙ ap (λ (rest : List Kept). map f start ++ rest) (drop_all index start all) ∙ append-nil (map f start) ∙ ap (map f) is in
-    let noted : written ≡ map f items = w ∙ one in
-    let count : length written ≡ len = ap length noted ∙ length-map items f ∙ ap length (sym is) ∙ long in
-    take-append-le len written (drop (length written) items) (omega arith) ∙ take_all len written (omega arith) ∙ noted
-
 pub due-begun : (purpose : Purpose) (kept : Kept) → entry_of (noted_begun purpose kept) ≡ entry_of kept
 due-begun (Open id) kept = elim (id == kept.id) as (λ b. entry_of (cond b (record kept { open_runs = true }) kept) ≡ entry_of kept) [ true ↦ refl | false ↦ refl ]
 due-begun (Close id) kept = elim (id == kept.id) as (λ b. entry_of (cond b (record kept { close = Some (not kept.open_runs); tried = true }) kept) ≡ entry_of kept) [ true ↦ refl | false ↦ refl ]
@@ -144,10 +133,11 @@ due-ended (Open id) good moment kept = elim (id == kept.id) as (λ b. entry_of (
 due-ended (Close id) good moment kept =
     elim (id == kept.id) as (λ b. entry_of (cond b (record kept { close = None; last_close = Some (record { good = good; moment = moment }) }) kept) ≡ entry_of kept) [ true ↦ refl | false ↦ refl ]
 
--- what was taken first goes back to the front
-pub put_back : (entry : Entry) (entries : List Entry) → All (λ other. precedes entry other ≡ true) entries → with_entry entry entries ≡ entry ∷ entries
-put_back entry [] all = refl
-put_back entry (x ∷ xs) all = rw (All-contains (λ other. precedes entry other ≡ true) (x ∷ xs) x all (Contains-head x xs)) refl
+pub id-begun : (purpose : Purpose) (kept : Kept) → (noted_begun purpose kept).id ≡ kept.id
+id-begun purpose kept = ap (λ (entry : Entry). entry.id) (due-begun purpose kept)
+
+pub id-not_begun : (purpose : Purpose) (kept : Kept) → (noted_not_begun purpose kept).id ≡ kept.id
+id-not_begun purpose kept = ap (λ (entry : Entry). entry.id) (due-not_begun purpose kept)
 
 pub Waits-rest : (dues : List Entry) (entry : Entry) (entries : List Entry) → Waits dues (entry ∷ entries) → Waits dues entries
 Waits-rest dues entry entries waits =
@@ -176,23 +166,6 @@ module _ (moment : ℕ) (machine : List Kept) where
       let early = not_due_yet at.0.due moment (subst (λ (e : Entry). moment < e.moment) (sym same) later) in
       let due = is_due_by at.0 parts.1 in cc))
 
-  pub passed : (entry : Entry) (entries : List Entry) (first : Option ℕ) → is_ready_at moment machine entry.id ≡ false → IsFirstWaiting moment machine entries first → IsFirstWaiting moment machine (entry ∷ entries) first
-  passed entry entries None n h =
-      λ other m. elim (Contains-cases entry entries other m) [
-        | inl s ↦ subst (λ (x : Entry). is_ready_at moment machine x.id ≡ false) s n
-        | inr k ↦ h other k
-      ]
-  passed entry entries (Some id) n h = (
-    h.0,
-    Contains-tail entry entries h.0 h.1,
-    h.2,
-    h.3,
-    λ other m t. elim (Contains-cases entry entries other m) [
-      | inl s ↦ absurd (let w = ap (λ (x : Entry). is_ready_at moment machine x.id) s in cc)
-      | inr k ↦ h.4 other k t
-    ],
-  )
-
   pub first_ready : (entries : List Entry) → IsTimed (map entry_of machine) entries → (first : Option ℕ) → IsFirstWaiting moment machine entries first → IsFirstReady moment machine first
   first_ready entries timed None h =
       All-by (λ kept. is_ready moment kept ≡ false) machine (λ kept m. false_from_ne_true (is_ready moment kept) (λ t. absurd (
@@ -214,12 +187,6 @@ module _ (moment : ℕ) (machine : List Kept) where
 abbrev pub entry_at : ℕ → ℕ → Entry
 entry_at id moment = record { id = id; moment = moment }
 
-abbrev schedule_of : List Entry → ℕ → Schedule
-schedule_of entries room = record { entries = entries; room = room }
-
-pub same_schedule : (a b : Schedule) → a.entries ≡ b.entries → a.room ≡ b.room → a ≡ b
-same_schedule a b entries room = ap (λ (es : List Entry). schedule_of es a.room) entries ∙ ap (schedule_of b.entries) room
-
 -- what the timer gave out, of what waits for these records
 module _ (machine : List Kept) (at id : ℕ) (old new : List Entry) (taken : IsTakenFirst at id old new) (waits : Waits (map entry_of machine) old) where
   in_front : Waits (map entry_of machine) (taken.entry ∷ new)
@@ -233,7 +200,7 @@ module _ (machine : List Kept) (at id : ℕ) (old new : List Entry) (taken : IsT
       sym (list_any-map entry_of (λ (entry : Entry). entry.id == id) machine)
       ∙ ap (λ (n : ℕ). holds n (map entry_of machine)) (sym taken.number) ∙ in_front.only taken.entry (Contains-head taken.entry new)
 
-  due-taken : (due : ℕ) → option_map (λ (kept : Kept). kept.due) (find (λ (kept : Kept). kept.id == id) machine) ≡ Some due → due ≡ taken.entry.moment
+  pub due-taken : (due : ℕ) → option_map (λ (kept : Kept). kept.due) (find (λ (kept : Kept). kept.id == id) machine) ≡ Some due → due ≡ taken.entry.moment
   due-taken due found =
       let at = find-at (λ (kept : Kept). kept.id == id) machine is_kept-taken in
       let number : at.0.id ≡ id = eqb-true at.0.id id at.2 in
@@ -241,16 +208,3 @@ module _ (machine : List Kept) (at id : ℕ) (old new : List Entry) (taken : IsT
       let some : Some due ≡ Some at.0.due = sym found ∙ ap (option_map (λ (kept : Kept). kept.due)) at.3 in
       let due_is : due ≡ at.0.due = cc in
       due_is ∙ ap (λ (entry : Entry). entry.moment) same
-
-  -- it goes back to where it was
-  pub put_back-taken : (due : ℕ) → option_map (λ (kept : Kept). kept.due) (find (λ (kept : Kept). kept.id == id) machine) ≡ Some due → with_entry (record { id = id; moment = due }) new ≡ old
-  put_back-taken due found =
-      let moment = due-taken due found in
-      let entry : record { id = id; moment = due } ≡ taken.entry =
-      ap (λ (n : ℕ). entry_at n due) (sym taken.number) ∙ ap (entry_at taken.entry.id) moment in
-      ap (λ (e : Entry). with_entry e new) entry ∙ put_back taken.entry new taken.first ∙ sym taken.taken
-
-  pub passed-taken : (moment : ℕ) (first : Option ℕ) → is_ready_at moment machine id ≡ false → IsFirstWaiting moment machine new first → IsFirstWaiting moment machine old first
-  passed-taken moment first unready rest =
-      subst (λ (es : List Entry). IsFirstWaiting moment machine es first) (sym taken.taken)
-      (passed moment machine taken.entry new first (ap (is_ready_at moment machine) taken.number ∙ unready) rest)

@@ -1,6 +1,7 @@
-ghost use Rattle.std.specs.Prelude.{◌≡◌, true, not, Some, None};
+ghost use Rattle.std.specs.Prelude.{◌≡◌, ◌≤◌, ℕ, true, not, Some, None};
 ghost use Rattle.fk_trace.specs.Idle.{rests, ended_well};
-ghost use Rattle.fk_cycle.specs.Kept.{fresh, noted_turn, noted_begun, noted_not_begun, noted_ended, may_begin, has_running, is_ready};
+ghost use Rattle.fk_cycle.specs.Kept.{noted_begun, noted_not_begun, noted_ended, may_begin, has_running, is_ready};
+ghost use Rattle.fk_cycle.specs.Private.{stored, kept_at, IsStep};
 ghost use Rattle.fk_cycle.specs.Acts.{act_for_close};
 
 use crate::{Act, CloseEnd};
@@ -35,13 +36,14 @@ pub(crate) struct Kept {
     open_runs: bool,
     close: Option<bool>,
     last_close: Option<LastClose>,
-    tried: bool,
+    // the number of the turn in which a close of it was attempted last, and 0 before the first
+    tried_in: u64,
 }
 
 impl Model for Kept {
-    ghost use Rattle.fk_cycle.specs.Kept.{Kept};
+    ghost use Rattle.fk_cycle.specs.Private.{Stored};
 
-    ghost Value = { Kept };
+    ghost Value = { Stored };
 
     ghost view = { λ k. record {
       id = k.id;
@@ -49,13 +51,13 @@ impl Model for Kept {
       open_runs = k.open_runs;
       close = k.close;
       last_close = k.last_close;
-      tried = k.tried;
+      tried_in = k.tried_in;
     } };
 }
 
 impl Kept {
     pub(crate) fn new(id: u64, due: u64) -> Self
-        ensures { result ≡ fresh id due }
+        ensures { result ≡ stored id due }
     {
         Kept {
             id,
@@ -63,7 +65,7 @@ impl Kept {
             open_runs: false,
             close: None,
             last_close: None,
-            tried: false,
+            tried_in: 0,
         }
     }
 
@@ -79,40 +81,41 @@ impl Kept {
         self.due
     }
 
-    pub(crate) fn turn(&mut self)
-        ensures { self.new ≡ noted_turn self.old }
+    /// Forgets in which turn a close was attempted.
+    pub(crate) fn forget_turn(&mut self)
+        ensures { self.new ≡ record self.old { tried_in = 0 } }
     {
-        self.tried = false;
+        self.tried_in = 0;
     }
 
-    pub(crate) fn begun(&mut self, purpose: Purpose)
-        ensures { self.new ≡ noted_begun purpose self.old }
+    pub(crate) fn begun(&mut self, purpose: Purpose, turn: u64)
+        ensures { IsStep turn (noted_begun purpose) self.old self.new }
     {
         match purpose {
             Purpose::Open(id) if id == self.id => self.open_runs = true,
-            Purpose::Close(id) if id == self.id => self.close_begun(),
+            Purpose::Close(id) if id == self.id => self.close_begun(turn),
             _ => {}
         }
     }
 
     /// No child began. An open that was not begun leaves nothing to note.
-    pub(crate) fn not_begun(&mut self, purpose: Purpose)
-        ensures { self.new ≡ noted_not_begun purpose self.old }
+    pub(crate) fn not_begun(&mut self, purpose: Purpose, turn: u64)
+        ensures { IsStep turn (noted_not_begun purpose) self.old self.new }
     {
         if purpose == Purpose::Close(self.id) {
-            self.tried = true;
+            self.tried_in = turn;
         }
     }
 
-    fn close_begun(&mut self)
-        ensures { self.new ≡ record self.old { close = Some (not self.old.open_runs); tried = true } }
+    fn close_begun(&mut self, turn: u64)
+        ensures { self.new ≡ record self.old { close = Some (not self.old.open_runs); tried_in = turn } }
     {
         self.close = Some(!self.open_runs);
-        self.tried = true;
+        self.tried_in = turn;
     }
 
     pub(crate) fn ended(&mut self, purpose: Purpose, good: bool, moment: Moment)
-        ensures { self.new ≡ noted_ended purpose good moment self.old }
+        ensures { (turn : ℕ) → IsStep turn (noted_ended purpose good moment) self.old self.new }
     {
         match purpose {
             Purpose::Open(id) if id == self.id => self.open_runs = false,
@@ -130,7 +133,7 @@ impl Kept {
 
     /// A child for this purpose may begin.
     pub(crate) fn may_begin(&self, purpose: Purpose) -> bool
-        ensures { result ≡ may_begin purpose self.now }
+        ensures { (turn : ℕ) → result ≡ may_begin purpose (kept_at turn self.now) }
     {
         match purpose {
             Purpose::Open(id) => id == self.id && !self.open_runs && self.close.is_none(),
@@ -140,7 +143,7 @@ impl Kept {
 
     /// A child for this purpose runs.
     pub(crate) fn has_running(&self, purpose: Purpose) -> bool
-        ensures { result ≡ has_running purpose self.now }
+        ensures { (turn : ℕ) → result ≡ has_running purpose (kept_at turn self.now) }
     {
         match purpose {
             Purpose::Open(id) => id == self.id && self.open_runs,
@@ -165,16 +168,15 @@ impl Kept {
         }
     }
 
-    /// A close may be attempted now.
-    pub(crate) fn is_ready(&self, moment: Moment) -> bool
-        ensures { result ≡ is_ready moment self.now }
+    /// A close may be attempted at this moment of the turn with this number.
+    pub(crate) fn is_ready(&self, moment: u64, turn: u64) -> bool
+        ensures { result ≡ is_ready moment (kept_at turn self.now) }
     {
-        let moment = moment.get();
         self.close.is_none()
             && !(self.open_runs && ended_well(self.last_close))
             && !rests(self.last_close, moment)
             && self.due <= moment
-            && !self.tried
+            && self.tried_in != turn
     }
 }
 

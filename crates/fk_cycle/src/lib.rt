@@ -8,9 +8,11 @@
 #![tactic(auto)]
 
 mod act;
+mod dues;
 mod kept;
 mod laws;
 mod machine;
+mod records;
 
 pub use act::{Act, CloseEnd};
 pub use machine::Machine;

@@ -1,24 +1,21 @@
 -- Entries stay in the order in which they fall due.
-use Rattle.std.proofs.Common.{◌≡◌, ℕ, ◌==◌, nat_lt, not, Bool, true, false, cond, List, [], ◌∷◌, take, drop, filter, ◌+◌, suc, refl, sym, ap, subst, arith, rules}
-use Rattle.std.specs.Prelude.{insert, position, unwrap_or, length, Option, Some, None}
-use Rattle.std.proofs.lemmas.List.Sums.{prefix_len-le-length}
+use Rattle.std.proofs.Common.{◌≡◌, ℕ, ◌==◌, not, Bool, true, false, cond, List, [], ◌∷◌, take, drop, filter, ◌+◌, suc, refl, sym, ap, subst, arith, rules}
+use Rattle.std.specs.Prelude.{insert}
 use Rattle.std.specs.List.{All, position_or_len}
 use Rattle.std.proofs.lemmas.Bool.Decides.{nat_tests}
 use Rattle.std.proofs.lemmas.List.Elements.{All-append, All-cons, All-nil, All-take, All-drop, All-filter, All-weaker}
-use Rattle.fk_timer.specs.declared.timer.Entry.{Entry}
-use Rattle.fk_timer.specs.Schedule.{precedes, holds, with_entry}
-use Rattle.fk_timer.specs.Private.{IsInOrder}
+use Rattle.fk_timer.specs.Schedule.{Entry, IsInOrder, precedes, holds, with_entry}
 
 -- what precedes an entry precedes what that one precedes
 through : (a b c : Entry) → precedes a b ≡ true → precedes b c ≡ true → precedes a c ≡ true
 through a b c first second = grind (arith, nat_tests)
 
 -- of two entries of different numbers one precedes the other
-other_way : (a b : Entry) → precedes a b ≡ false → (b.id == a.id) ≡ false → precedes b a ≡ true
+pub other_way : (a b : Entry) → precedes a b ≡ false → (b.id == a.id) ≡ false → precedes b a ≡ true
 other_way a b not_before apart = grind (arith, nat_tests)
 
 -- what holds of the entries and of one more holds of all with that one
-All-with_entry : (P : Entry → Type 0) (entry : Entry) (entries : List Entry) → P entry → All P entries → All P (with_entry entry entries)
+pub All-with_entry : (P : Entry → Type 0) (entry : Entry) (entries : List Entry) → P entry → All P entries → All P (with_entry entry entries)
 All-with_entry P entry entries one all =
     let place = position_or_len (λ other. precedes entry other) entries in
     All-append P (take place entries) (entry ∷ drop place entries) (All-take P place entries all) (All-cons P entry (drop place entries) one (All-drop P place entries all))
@@ -32,11 +29,11 @@ with_entry-cons entry x xs =
           ap (λ place. insert (x ∷ xs) place entry) more
     ]
 
-eqb-swap : (a b : ℕ) → (a == b) ≡ false → (b == a) ≡ false
+pub eqb-swap : (a b : ℕ) → (a == b) ≡ false → (b == a) ≡ false
 eqb-swap a b apart = grind (arith, nat_tests)
 
 -- one more entry of another number does not have this one
-holds-with_entry : (id : ℕ) (entry : Entry) (entries : List Entry) → (entry.id == id) ≡ false → holds id entries ≡ false → holds id (with_entry entry entries) ≡ false
+pub holds-with_entry : (id : ℕ) (entry : Entry) (entries : List Entry) → (entry.id == id) ≡ false → holds id entries ≡ false → holds id (with_entry entry entries) ≡ false
 holds-with_entry id entry [] apart none = grind rules
 holds-with_entry id entry (x ∷ xs) apart none =
     let here : (x.id == id) ≡ false = grind rules in
@@ -47,7 +44,7 @@ holds-with_entry id entry (x ∷ xs) apart none =
     [ true ↦ rw (apart, here, rest) refl | false ↦ rw (here, ih) refl ])
 
 -- what is left of entries none of which has a number has it neither
-holds-filter : (id : ℕ) (keeps : Entry → Bool) (entries : List Entry) → holds id entries ≡ false → holds id (filter keeps entries) ≡ false
+pub holds-filter : (id : ℕ) (keeps : Entry → Bool) (entries : List Entry) → holds id entries ≡ false → holds id (filter keeps entries) ≡ false
 holds-filter id keeps [] none = refl
 holds-filter id keeps (x ∷ xs) none =
     let here : (x.id == id) ≡ false = grind rules in
@@ -81,15 +78,3 @@ IsInOrder-filter keeps (x ∷ xs) order =
       | true ↦ (All-filter keeps (λ other. precedes x other ≡ true) xs order.0, holds-filter x.id keeps xs order.1, IsInOrder-filter keeps xs order.2)
       | false ↦ IsInOrder-filter keeps xs order.2
     ]
-
--- the first place that passes, or the end
-pub place-unwrapped : (passes : Entry → Bool) (entries : List Entry) (place : Option ℕ) (len : ℕ) → place ≡ position passes entries → len ≡ length entries
-    → unwrap_or place len ≡ position_or_len passes entries
-place-unwrapped passes entries place len is all =
-    let within = prefix_len-le-length (λ entry. not (passes entry)) entries in
-    rw (is, all)
-    ((elim (nat_lt (position_or_len passes entries) (length entries))
-    as (λ b. nat_lt (position_or_len passes entries) (length entries) ≡ b → unwrap_or (cond b (Some (position_or_len passes entries)) None) (length entries) ≡ position_or_len passes entries) [
-      | true ↦ λ _. refl
-      | false ↦ λ past. grind (arith, nat_tests)
-    ]) refl)

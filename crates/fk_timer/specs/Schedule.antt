@@ -1,7 +1,11 @@
 -- What waits for its moment, and in which order it falls due.
-use Rattle.std.specs.Prelude.{◌≡◌, ℕ, ◌≤◌, ◌==◌, ◌&&◌, ◌||◌, nat_lt, not, Bool, true, false, List, ◌∷◌, filter, insert, All}
+use Rattle.std.specs.Prelude.{◌≡◌, ℕ, ◌≤◌, ◌==◌, ◌&&◌, ◌||◌, nat_lt, not, Bool, true, false, List, [], ◌∷◌, filter, insert, All}
 use Rattle.std.specs.List.{list_any, position_or_len}
-use Rattle.fk_timer.specs.declared.timer.Entry.{Entry}
+
+-- a number, and the moment at which it falls due
+pub record Entry : Type 0 where
+  pub id : ℕ
+  pub moment : ℕ
 
 -- where a timer stands
 pub record Schedule : Type 0 where
@@ -34,3 +38,8 @@ pub record IsTakenFirst (moment id : ℕ) (old new : List Entry) : Type 0 where
   pub taken : old ≡ entry ∷ new
   pub first : All (λ other. precedes entry other ≡ true) new
   pub once : holds id new ≡ false
+
+-- each entry precedes all behind it, none of which has its number
+abbrev pub IsInOrder : List Entry → Type 0
+IsInOrder [] = Unit {0}
+IsInOrder (entry ∷ entries) = All (λ other. precedes entry other ≡ true) entries × (holds entry.id entries ≡ false) × IsInOrder entries

@@ -1,34 +1,34 @@
-ghost use Rattle.std.specs.Prelude.{◌≡◌, ◌+◌, ◌<◌, ◌≤◌, [], false, length, position, All, IfNone, IfSome, OnOk};
-ghost use Rattle.std.specs.List.{position_or_len};
-ghost use Rattle.fk_timer.specs.Schedule.{precedes, holds, with_entry, without, IsTakenFirst};
+ghost use Rattle.std.specs.Prelude.{◌≡◌, ◌+◌, ◌<◌, ◌≤◌, [], false, length, All, IfNone, IfSome, OnOk};
+ghost use Rattle.fk_timer.specs.Schedule.{holds, with_entry, without, IsTakenFirst};
 
 use fk_base::NoMemory;
 use std::alloc::Global;
+use std::cmp::Reverse;
+use std::collections::BinaryHeap;
 use std::marker::Model;
 
 /// What waits for its moment.
+///
+/// Each that waits is a moment and a number, the least first. So `put` and `take_due` take as many steps as the count of
+/// what waits has binary digits; `holds` and `drop_id` look at all that waits.
 #[derive(Drop)]
 pub struct Timer {
-    entries: Vec<Entry>,
-}
-
-/// A number, and the moment at which it falls due.
-#[derive(Clone, Copy)]
-struct Entry {
-    id: u64,
-    moment: u64,
+    waiting: BinaryHeap<Reverse<(u64, u64)>>,
+    // how many may wait at most before it has to grow
+    reserved: usize,
 }
 
 impl Model for Timer {
-    ghost use Rattle.std.specs.Prelude.{◌-◌, vec_len, vec_capacity};
-    ghost use Rattle.fk_timer.specs.Private.{IsInOrder};
+    ghost use Rattle.std.specs.Prelude.{◌-◌, map};
+    ghost use Rattle.std.specs.BinaryHeap.{heap_items, heap_len, heap_capacity};
+    ghost use Rattle.fk_timer.specs.Private.{IsStored, entry_of, in_order};
     ghost use Rattle.fk_timer.specs.Schedule.{Schedule};
 
     ghost Value = { Schedule };
 
-    ghost view = { λ t. record { entries = t.entries.items; room = vec_capacity t.entries - vec_len t.entries } };
+    ghost view = { λ t. record { entries = in_order (map entry_of (heap_items t.waiting)); room = t.reserved - heap_len t.waiting } };
 
-    ghost invariant = { λ t. IsInOrder t.entries.items };
+    ghost invariant = { λ t. IsStored (heap_items t.waiting) (heap_len t.waiting) t.reserved (heap_capacity t.waiting) };
 }
 
 impl Timer {
@@ -37,8 +37,16 @@ impl Timer {
         ensures { result ≡ record { entries = []; room = 0 } }
     {
         Timer {
-            entries: Vec::new(alloc),
+            waiting: BinaryHeap::new(alloc),
+            reserved: 0,
         }
+    }
+
+    /// How many wait.
+    pub fn count(&self) -> usize
+        ensures { result ≡ length self.now.entries }
+    {
+        self.waiting.len()
     }
 
     /// Makes room for one more.
@@ -47,7 +55,10 @@ impl Timer {
         ensures ok { OnOk result (1 ≤ self.new.room) }
         ensures room { self.old.room ≤ self.new.room }
     {
-        self.entries.reserve(1)?;
+        if self.waiting.len() == self.reserved {
+            self.waiting.reserve(1)?;
+            self.reserved = self.waiting.capacity();
+        }
         Ok(())
     }
 
@@ -55,7 +66,7 @@ impl Timer {
     pub fn holds(&self, id: u64) -> bool
         ensures { result ≡ holds id self.now.entries }
     {
-        self.entries.iter().any(|entry| entry.id == id)
+        self.waiting.iter().any(|due| due.0.1 == id)
     }
 
     /// Lets a number wait for its moment.
@@ -65,9 +76,7 @@ impl Timer {
         ensures entries { self.new.entries ≡ with_entry (record { id = id; moment = moment }) self.old.entries }
         ensures room { self.new.room + 1 ≡ self.old.room }
     {
-        let entry = Entry { id, moment };
-        let place = self.place_of(entry);
-        match self.entries.insert(place, entry) {
+        match self.waiting.push(Reverse((moment, id))) {
             Ok(()) => (),
             Err(_) => unreachable!(),
         }
@@ -78,12 +87,12 @@ impl Timer {
         ensures some { IfSome result (λ id. IsTakenFirst moment id self.old.entries self.new.entries × (self.new.room ≡ self.old.room + 1)) }
         ensures none { IfNone result (All (λ entry. moment < entry.moment) self.old.entries × (self.new ≡ self.old)) }
     {
-        let first = *self.entries.first()?;
-        if first.moment > moment {
+        let first = self.waiting.peek()?.0;
+        if first.0 > moment {
             return None;
         }
-        self.entries.remove(0);
-        Some(first.id)
+        let Reverse((_, id)) = self.waiting.pop()?;
+        Some(id)
     }
 
     /// Takes out what has this number. Where nothing has it, all stays as it is.
@@ -91,27 +100,6 @@ impl Timer {
         ensures entries { self.new.entries ≡ without id self.old.entries }
         ensures room { self.new.room + length self.new.entries ≡ self.old.room + length self.old.entries }
     {
-        self.entries.retain(|entry| entry.id != id);
-    }
-
-    // The place of the first that the entry precedes, or the end.
-    fn place_of(&self, entry: Entry) -> usize
-        ensures { result ≡ position_or_len (λ other. precedes entry other) self.now.entries }
-    {
-        self.first_behind(entry).unwrap_or(self.entries.len())
-    }
-
-    fn first_behind(&self, entry: Entry) -> Option<usize>
-        ensures { result ≡ position (λ other. precedes entry other) self.now.entries }
-    {
-        self.entries.iter().position(|other| entry.precedes(*other))
-    }
-}
-
-impl Entry {
-    fn precedes(self, other: Entry) -> bool
-        ensures { result ≡ precedes self other }
-    {
-        self.moment < other.moment || (self.moment == other.moment && self.id < other.id)
+        self.waiting.retain(|due| due.0.1 != id);
     }
 }

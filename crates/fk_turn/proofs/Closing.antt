@@ -34,6 +34,7 @@ use Rattle.fk_turn.specs.Parts.{AttemptsNext, closing_part, AttemptsCloses, Clos
 use Rattle.fk_child.proofs.Images.{calls-none, calls-then, calls-same}
 use Rattle.fk_turn.proofs.Logging.{logs-nothing}
 use Rattle.fk_turn.proofs.Places.{place-same, serves-join}
+use Rattle.fk_child.proofs.Others.{area-kept}
 use Rattle.fk_turn.proofs.Finishing.{passing, count-lt}
 use Rattle.fk_turn.proofs.Assembly.{part-same, next-untried}
 use Rattle.fk_turn.proofs.Parting.{crew_host, serves-nothing}
@@ -150,6 +151,7 @@ module _ (conf : Conf) (moment : ℕ) (place : Place) (s0 : Scene) (book : Book)
           limit = before.limit;
           room = before.room;
           unspent = before.unspent;
+          area = area-kept book book h1 h2 refl goes.adds.others before.area;
           stands = goes.stands;
           number = before.number;
         } in

@@ -49,6 +49,7 @@ use Rattle.fk_turn.proofs.Items.{tries-attempts}
 use Rattle.fk_turn.proofs.Lines.{no_refusal-told}
 use Rattle.fk_turn.proofs.Assembly.{owes-live}
 use Rattle.fk_turn.proofs.Parting.{crew_host, reached-nothing}
+use Rattle.fk_child.proofs.Others.{area-kept}
 
 -- the line of an attempt of an open
 pub open-line : (moment id : ℕ) (words : List (List ℕ)) (event : Event) → IsAttempt (Open id) words event
@@ -75,6 +76,7 @@ refuses policy place moment source datagram why d h o0 o1 e rest adds line =
       limit = rest.stands.limit;
       room = rest.stands.room;
       unspent = rest.stands.unspent;
+      area = rest.stands.area;
       stands = rest.stands.stands;
       number = rest.stands.number;
     } in
@@ -212,6 +214,7 @@ module _ (policy : Policy) (place : Place) (moment : ℕ) (source : Ip4) (datagr
                 limit = ap (λ (b : Book). b.limit) kept ∙ rest.stands.limit;
                 room = ap (λ (b : Book). b.room) kept ∙ rest.stands.room;
                 unspent = ap (λ (b : Book). b.is_spent) kept ∙ rest.stands.unspent;
+                area = area-kept book book h1 h2 refl goes.adds.others (area-kept d.book book h0 h1 (ap (λ (b : Book). b.area) kept) spares rest.stands.area);
                 stands = goes.stands;
                 number = rest.stands.number;
               };
@@ -242,6 +245,7 @@ like-rests conf d e h o place like rest =
         limit = rest.stands.limit;
         room = rest.stands.room;
         unspent = rest.stands.unspent;
+        area = rest.stands.area;
         stands = record {
           tied = record {
             owes = tied.owes;

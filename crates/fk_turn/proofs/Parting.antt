@@ -24,6 +24,7 @@ use Rattle.fk_turn.specs.Serving.{calls_for}
 use Rattle.fk_turn.specs.Parts.{end_line, beginning, BeginsTurn, settlement, SettlesWhole, FailsToSettle, Settles, Part, joined, reached, ServesPart}
 use Rattle.fk_child.proofs.Images.{adds-append, calls-none, calls-then, calls-same}
 use Rattle.fk_turn.proofs.Places.{place-same, serves-join}
+use Rattle.fk_child.proofs.Others.{area-kept}
 use Rattle.fk_turn.proofs.Lines.{ends-lines}
 use Rattle.fk_log.proofs.Logged.{Logs-append}
 use Rattle.fk_turn.proofs.Logging.{logs-nothing}
@@ -55,6 +56,7 @@ begins conf moment number place book turns c0 c1 c2 h0 h1 h2 o0 o1 o2 rest is li
       limit = rest.stands.limit;
       room = rest.stands.room;
       unspent = rest.stands.unspent;
+      area = area-kept book book h1 h2 refl polls.goes.adds.others (area-kept book book h0 h1 refl goes.adds.others rest.stands.area);
       stands = polls.goes.stands;
       number = rest.stands.number;
     } in
@@ -114,6 +116,7 @@ settles-more conf moment place s0 id turns book1 book2 c1 c2 h1 h2 o1 o2 front f
         limit = ap (λ (b : Book). b.limit) first.book ∙ stands1.limit;
         room = ap (λ (b : Book). b.room) first.book ∙ stands1.room;
         unspent = ap (λ (b : Book). b.is_spent) first.book ∙ stands1.unspent;
+        area = area-kept book1 book2 h1 h2 (ap (λ (b : Book). b.area) first.book) first.adds.others stands1.area;
         stands = first.stands;
         number = stands1.number;
       };

@@ -61,6 +61,7 @@ next-stands conf at place h = record {
   limit = h.limit;
   room = h.room;
   unspent = h.unspent;
+  area = h.area;
   stands = stands-numbered (record { crew = at.daemon.crew; host = at.host }) place (place.number + 1) h.stands;
   number = ap (λ (n : ℕ). n + 1) h.number;
 }

@@ -6,7 +6,7 @@ use Rattle.fk_host.specs.declared.stream.Sink.{Ghosts as SinkMeaning}
 use Rattle.fk_conf.specs.declared.conf.Conf.{Conf}
 use Rattle.fk_ledger.specs.Book.{Book}
 use Rattle.fk_child.specs.Crew.{CrewState, StandsAt}
-use Rattle.fk_child.specs.View.{View, view_of}
+use Rattle.fk_child.specs.View.{View, view_of, StandsOnArea}
 use Rattle.fk_log.specs.Writing.{LogState, Output, output}
 
 -- a daemon as contracts see it
@@ -32,13 +32,14 @@ output_by means log sink = output log (means.written sink) (means.faults sink)
 abbrev pub scene_by : {H K : Type 0} → DiskMeaning H → SinkMeaning K → DaemonState → H → LogState → K → Scene
 scene_by disk out daemon host log sink = scene daemon (view_of disk host) (output_by out log sink)
 
--- The daemon stands at the place: its ledger is the one of the place, within the configuration's bounds, and its crew stands there;
--- the turn that is served, or else the next one, has the number of the place. It does so in the midst of a turn too.
+-- The daemon stands at the place: its ledger is the one of the place, within the configuration's bounds, and stands on the area that
+-- Head selects; its crew stands there; the turn that is served, or else the next one, has the number of the place. It does so in the midst of a turn too.
 pub record DaemonStands (conf : Conf) (at : Scene) (place : Place) : Type 0 where
   pub changes : at.daemon.book.changes ≡ place.ledger
   pub limit : at.daemon.book.limit ≡ conf.live
   pub room : at.daemon.book.room ≡ conf.room
   pub unspent : at.daemon.book.is_spent ≡ false
+  pub area : StandsOnArea at.daemon.book.area at.host
   pub stands : StandsAt (record { crew = at.daemon.crew; host = at.host }) place
   pub number : place.number ≡ at.daemon.turns + 1
 

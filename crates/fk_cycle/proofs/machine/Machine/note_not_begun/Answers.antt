@@ -1,18 +1,12 @@
-use Rattle.std.proofs.Common.{◌≤◌, length, arith}
-use Rattle.std.proofs.lemmas.List.Edits.{map_over_more}
 use Rattle.fk_cycle.specs.Kept.{noted_not_begun}
-use Rattle.fk_cycle.proofs.TimedLemmas.{all-written, dues-noted, due-not_begun}
+use Rattle.fk_cycle.proofs.TimedLemmas.{dues-noted, due-not_begun, id-not_begun}
+use Rattle.fk_cycle.proofs.DuesLemmas.{HasPassed-noted, ready-not_begun}
 use Rattle.fk_cycle.proofs.machine.Machine.note_not_begun.Goals as goal
-
-pub loop-kept-preserved : goal.loop-kept-preserved
-loop-kept-preserved c =
-    rw (c.not_begun.ensures, ← c.kept-item.is)
-    (map_over_more (noted_not_begun c.args.purpose) c.deref_mut-kept-items.result.now c.loop-kept.kept-items c.loop-kept.kept-index c.kept-item.result c.loop-kept-test.true c.loop-kept.invariant c.kept-item.is)
 
 pub invariant_of-self : goal.invariant_of-self
 invariant_of-self c =
-    let items = c.self.inside.kept.items in
-    let start = c.deref_mut-kept-items.result.now in
-    let all : length start ≤ c.loop-kept.kept-index = let test = c.loop-kept-test.false in let same = c.loop-kept.auto.kept-items in omega arith in
-    let written = all-written (noted_not_begun c.args.purpose) items start c.loop-kept.kept-items c.self.inside.kept.len c.loop-kept.kept-index c.deref_mut-kept-items.ensures.value c.deref_mut-kept-items.ensures.len all c.loop-kept.invariant in
-    rw (written, dues-noted (noted_not_begun c.args.purpose) (due-not_begun c.args.purpose) items) c.self.invariant
+    let dues = c.self.inside.dues in
+    rw c.not_begun.ensures.kept (record {
+      timed = rw (dues-noted (noted_not_begun c.args.purpose) (due-not_begun c.args.purpose) c.self.inside.records.kept) c.self.invariant.timed;
+      passed = HasPassed-noted dues.at (noted_not_begun c.args.purpose) (id-not_begun c.args.purpose) (ready-not_begun c.args.purpose dues.at) c.self.inside.records.kept dues.passed dues.come c.self.invariant.passed;
+    })

@@ -28,6 +28,9 @@ loop-id-init g c =
 pub settle_next-requires-clause-unspent : goal.settle_next-requires-clause-unspent
 settle_next-requires-clause-unspent g c = (settling-stands _ _ _ c.loop-id.invariant).2.unspent
 
+pub settle_next-requires-clause-area : goal.settle_next-requires-clause-area
+settle_next-requires-clause-area g c = (settling-stands _ _ _ c.loop-id.invariant).2.area
+
 pub settle_next-requires-clause-stands : goal.settle_next-requires-clause-stands
 settle_next-requires-clause-stands g c =
     let stands = settling-stands _ _ _ c.loop-id.invariant in
