@@ -1,4 +1,4 @@
-# Completion of bash for fwknopd and fwknop. What it offers is read from the table that `--help` prints, each line of which has an option, a
+# Completion of bash for fwknopd, fwknop and fko. What it offers is read from the table that `--help` prints, each line of which has an option, a
 # word in capitals for its value where it takes one, and what it does. So it knows no option by itself.
 
 # _fwknop_stanzas FILE: the names of the stanzas of a client's file
@@ -36,4 +36,11 @@ _fwknop() {
     esac
 }
 
+# The first word alone: a command, or one of the two options. Each begins a line of the table, which the examples end.
+_fko() {
+    COMPREPLY=()
+    [ "$COMP_CWORD" -gt 1 ] || mapfile -t COMPREPLY < <(compgen -W "$("$1" --help 2>/dev/null | sed -n '/^examples/q; s/^  \([a-z-]*\) .*/\1/p')" -- "${COMP_WORDS[COMP_CWORD]}")
+}
+
 complete -F _fwknop fwknopd fwknop
+complete -F _fko fko

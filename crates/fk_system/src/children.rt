@@ -5,10 +5,10 @@ ghost use Rattle.std.specs.Process.{command_program, command_args};
 ghost use Rattle.fk_trace.specs.Trace.Event.{Began};
 ghost use Rattle.fk_host.specs.Host.{brought_by_start, brought_by_poll, above_by, is_running};
 
-use fk_base::{Failed, Purpose, Words};
+use fk_base::{Bytes, Failed, Purpose, Words};
 use fk_host::{ChildId, StartErr};
 use std::alloc::Global;
-use std::io::ErrorKind;
+use std::io::{ErrorKind, Stderr};
 use std::marker::Model;
 use std::process::{Command, OpenProcess, Processes, Stdio};
 use std::{io, process};
@@ -36,13 +36,16 @@ impl<P: OpenProcess + Drop> Started<P> {
         self.number
     }
 
-    /// Whether it has ended, and if so whether its exit status was 0. What has ended is reaped.
+    /// Whether it has ended, and if so whether its exit status was 0. What has ended is reaped. Where somebody else has reaped it, as
+    /// the system does where SIGCHLD is ignored, nobody knows its status, and it counts as one that ended badly.
     fn end(&mut self) -> io::Result<Option<bool>>
         ensures { self.new ≡ self.old }
     {
-        match self.process.try_wait()? {
-            Some(status) => Ok(Some(status.success())),
-            None => Ok(None),
+        match self.process.try_wait() {
+            Ok(Some(status)) => Ok(Some(status.success())),
+            Ok(None) => Ok(None),
+            Err(error) if error.raw_os_error() == Some(libc::ECHILD) => Ok(Some(false)),
+            Err(error) => Err(error),
         }
     }
 }
@@ -53,6 +56,8 @@ pub(crate) struct SysChildren<P: OpenProcess + Drop> {
     running: Vec<Started<P>>,
     last: u64,
     faults: u64,
+    // a program that could not be started in this turn, since it is not there or no program
+    missing: Option<Bytes>,
 }
 
 impl<P: OpenProcess + Drop> Model for SysChildren<P> {
@@ -71,13 +76,22 @@ impl<P: OpenProcess + Drop> SysChildren<P> {
             running: Vec::new(alloc),
             last: 0,
             faults: 0,
+            missing: None,
         }
+    }
+
+    /// Looks for each program again.
+    pub fn forget_missing(&mut self)
+        ensures { self.new ≡ self.old }
+    {
+        self.missing = None;
     }
 
     pub fn start<R: Processes<Started = P>>(
         &mut self,
         alloc: Global,
         rt: &R,
+        errors: Stderr,
         purpose: Purpose,
         words: &Words,
     ) -> Result<ChildId, StartErr>
@@ -85,7 +99,7 @@ impl<P: OpenProcess + Drop> SysChildren<P> {
         ensures number { IfOk result (λ child. self.old.last_child < child.0) }
         ensures above { self.new ≡ above_by (brought_by_start purpose words.now result) self.old }
     {
-        match self.begin(alloc, rt, purpose, words) {
+        match self.begin(alloc, rt, errors, purpose, words) {
             Ok(child) => Ok(child),
             Err(StartErr::Failed) => {
                 self.faults = self.faults.saturating_add(1);
@@ -99,6 +113,7 @@ impl<P: OpenProcess + Drop> SysChildren<P> {
         &mut self,
         alloc: Global,
         rt: &R,
+        errors: Stderr,
         purpose: Purpose,
         words: &Words,
     ) -> Result<ChildId, StartErr>
@@ -110,9 +125,15 @@ impl<P: OpenProcess + Drop> SysChildren<P> {
         let Some(number) = self.last.checked_add(1) else {
             return Err(StartErr::Failed);
         };
+        if self.is_missing(words) {
+            return Err(StartErr::Failed);
+        }
         // The room comes first, so that no process is started that could not be kept.
         self.running.reserve(1)?;
-        let process = spawn(alloc, rt, words)?;
+        let process = match spawn(rt, errors, command_of(alloc, words)?) {
+            Ok(process) => process,
+            Err(error) => return Err(self.not_started(alloc, words.get(0), error.kind())),
+        };
         self.running.push_reserved(Started {
             number,
             purpose,
@@ -120,6 +141,30 @@ impl<P: OpenProcess + Drop> SysChildren<P> {
         });
         self.last = number;
         Ok(ChildId(number))
+    }
+
+    /// Why the program was not started. One that is not there is remembered for this turn.
+    fn not_started(&mut self, alloc: Global, program: &[u8], kind: ErrorKind) -> StartErr
+        ensures { self.new ≡ self.old }
+    {
+        match kind {
+            ErrorKind::OutOfMemory => StartErr::NoMemory,
+            ErrorKind::NotFound | ErrorKind::PermissionDenied => {
+                self.missing = Bytes::copy(alloc, program).ok();
+                StartErr::Failed
+            }
+            _ => StartErr::Failed,
+        }
+    }
+
+    /// The program of these words could not be started in this turn.
+    fn is_missing(&self, words: &Words) -> bool
+        requires { 0 < length words.now }
+    {
+        match &self.missing {
+            Some(program) => program.as_slice() == words.get(0),
+            None => false,
+        }
     }
 
     pub fn poll(&mut self, child: ChildId) -> Result<Option<bool>, Failed>
@@ -158,21 +203,18 @@ impl<P: OpenProcess + Drop> SysChildren<P> {
     }
 }
 
-/// Starts the process with an empty standard input and nowhere for its standard output. Its standard error is the daemon's.
+/// Starts the process with an empty standard input and nowhere for its standard output. The system gives the child the standard error
+/// only where it is named: one that this program opened itself, since it was closed, is kept from children.
 fn spawn<R: Processes>(
-    alloc: Global,
     rt: &R,
-    words: &Words,
-) -> Result<process::Child<R::Started>, StartErr>
-    requires { 0 < length words.now }
-{
-    let mut command = command_of(alloc, words)?;
-    command.stdin(Stdio::null()).stdout(Stdio::null());
-    match command.spawn(rt) {
-        Ok(process) => Ok(process),
-        Err(error) if error.kind() == ErrorKind::OutOfMemory => Err(StartErr::NoMemory),
-        Err(_) => Err(StartErr::Failed),
-    }
+    errors: Stderr,
+    mut command: Command,
+) -> io::Result<process::Child<R::Started>> {
+    command
+        .stdin(Stdio::null())
+        .stdout(Stdio::null())
+        .stderr(Stdio::from(errors));
+    command.spawn(rt)
 }
 
 /// The command of these words: the first names the program, which is looked for by PATH where it has no slash.

@@ -1,5 +1,5 @@
 use Rattle.std.proofs.Common.{◌≤◌, length}
-use Rattle.fk_system.proofs.host.fill.Given as goal
+use Rattle.fk_system.proofs.area_files.fill.Given as goal
 
 abbrev pub invariant-loop : goal.invariant-loop
 invariant-loop l = l.count ≤ length l.buf
