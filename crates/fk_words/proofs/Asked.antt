@@ -1,4 +1,4 @@
--- What the words of the daemon may ask for.
+-- What the words of the daemon may ask for, and that those of the daemon and of the tool ask for one command.
 use Rattle.std.proofs.Common.{◌≡◌, ℕ, ◌≤◌, nat_le, List, Option, Some, None, IfSome, if◌then◌else◌, refl, sym, subst, ◌∙◌, arith}
 use Rattle.std.specs.Option.{option_and_then}
 use Rattle.std.proofs.lemmas.Bool.Decides.{nat_tests}
@@ -11,7 +11,7 @@ use Rattle.fk_words.specs.declared.command_option.CommandOption.{CommandOption}
 use Rattle.fk_words.specs.declared.command_option.CommandOption.TheVariants.{PacketLimit, TurnLimit}
 use Rattle.fk_words.specs.declared.option_set.OptionSet.{OptionSet}
 use Rattle.fk_words.specs.declared.option_set.OptionSet.TheVariants as sets
-use Rattle.fk_words.specs.declared.tool.Tool.TheVariants.{Daemon}
+use Rattle.fk_words.specs.declared.tool.Tool.TheVariants.{Daemon, Fko}
 use Rattle.fk_words.specs.ReadsWords.{IsCommand, ReadsWords, limit_of, set_read, value_of}
 use Rattle.fk_words.specs.Limits.{IsLimit}
 use Rattle.fk_words.specs.DaemonCommands.{IsForDaemon}
@@ -97,3 +97,45 @@ pub same-command : (words : List (List ℕ)) (a b : Command) → ReadsWords Daem
 same-command words a b one two =
     let same : two.set ≡ one.set = ok-same (set_read Daemon words) two.set one.set two.reads one.reads in
     same-named words one.set a b (set-of Daemon words one.set one.reads) one.asks (subst (λ (set : OptionSet). IsCommand words set b) same two.asks)
+
+same-asked : (words : List (List ℕ)) (set : OptionSet) (a b : Command) → IsSetOf Fko set → IsCommand words set a → IsCommand words set b → a ≡ b
+same-asked words sets.Encode (command.Encode f n) (command.Encode f' n') is one two =
+    let ef : f ≡ f' = one.file_is ∙ sym two.file_is in
+    let en : n ≡ n' = one.name_is ∙ sym two.name_is in
+    cc
+same-asked words sets.Encode (command.Encode f n) _ is one two = absurd two
+same-asked words sets.Encode _ _ is one two = absurd one
+same-asked words sets.Decode (command.Decode f n) (command.Decode f' n') is one two =
+    let ef : f ≡ f' = one.file_is ∙ sym two.file_is in
+    let en : n ≡ n' = one.name_is ∙ sym two.name_is in
+    cc
+same-asked words sets.Decode (command.Decode f n) _ is one two = absurd two
+same-asked words sets.Decode _ _ is one two = absurd one
+same-asked words sets.KeyGen command.KeyGen command.KeyGen is one two = refl
+same-asked words sets.KeyGen command.KeyGen _ is one two = absurd two
+same-asked words sets.KeyGen _ _ is one two = absurd one
+same-asked words sets.Journal command.Journal command.Journal is one two = refl
+same-asked words sets.Journal command.Journal _ is one two = absurd two
+same-asked words sets.Journal _ _ is one two = absurd one
+same-asked words sets.Generate (command.Generate c) (command.Generate c') is one two =
+    let ec : c ≡ c' = one ∙ sym two in
+    cc
+same-asked words sets.Generate (command.Generate c) _ is one two = absurd two
+same-asked words sets.Generate _ _ is one two = absurd one
+same-asked words sets.Help command.Help command.Help is one two = refl
+same-asked words sets.Help command.Help _ is one two = absurd two
+same-asked words sets.Help _ _ is one two = absurd one
+same-asked words sets.Version command.Version command.Version is one two = refl
+same-asked words sets.Version command.Version _ is one two = absurd two
+same-asked words sets.Version _ _ is one two = absurd one
+same-asked words sets.Serve _ _ is one two = absurd is
+same-asked words sets.Trial _ _ is one two = absurd is
+same-asked words sets.List _ _ is one two = absurd is
+same-asked words sets.SendForAddress _ _ is one two = absurd is
+same-asked words sets.SendForSource _ _ is one two = absurd is
+
+-- words of the tool ask for one command
+pub same-tool_command : (words : List (List ℕ)) (a b : Command) → ReadsWords Fko words a → ReadsWords Fko words b → a ≡ b
+same-tool_command words a b one two =
+    let same : two.set ≡ one.set = ok-same (set_read Fko words) two.set one.set two.reads one.reads in
+    same-asked words one.set a b (set-of Fko words one.set one.reads) one.asks (subst (λ (set : OptionSet). IsCommand words set b) same two.asks)

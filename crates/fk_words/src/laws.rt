@@ -4,7 +4,7 @@ ghost use Rattle.fk_words.specs.declared.command.Command.{Command};
 ghost use Rattle.fk_words.specs.declared.command_option.TheConstants.{GREATEST_LIMIT};
 ghost use Rattle.fk_words.specs.declared.operand.TheConstants.{GREATEST_COUNT};
 ghost use Rattle.fk_words.specs.declared.tool.Tool.{Tool};
-ghost use Rattle.fk_words.specs.declared.tool.Tool.TheVariants.{Client, Daemon};
+ghost use Rattle.fk_words.specs.declared.tool.Tool.TheVariants.{Client, Daemon, Fko};
 ghost use Rattle.fk_words.specs.CommandOf.{AskAlike, IsCommandOf};
 ghost use Rattle.fk_words.specs.DaemonCommands.{IsForDaemon};
 ghost use Rattle.fk_words.specs.ReadsWords.{ReadsWords};
@@ -23,6 +23,11 @@ pub fn client_words_ask_for_one_packet()
 pub fn daemon_words_ask_for_one_command()
     ensures own { (words : List (List ℕ)) (asked : Command) → ReadsWords Daemon words asked → IsForDaemon asked }
     ensures one { (words : List (List ℕ)) (a b : Command) → ReadsWords Daemon words a → ReadsWords Daemon words b → a ≡ b }
+{}
+
+/// Words of the tool ask for one command at most.
+pub fn tool_words_ask_for_one_command()
+    ensures { (words : List (List ℕ)) (a b : Command) → ReadsWords Fko words a → ReadsWords Fko words b → a ≡ b }
 {}
 
 /// The greatest limit on the datagrams or the turns of a run, and how many lines are generated at most.

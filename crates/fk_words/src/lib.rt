@@ -22,7 +22,7 @@ mod word_walk;
 pub use command::{Command, SendWords};
 pub use laws::{
     client_words_ask_for_one_packet, daemon_words_ask_for_one_command, limits_have_their_numbers,
-    words_ask_for_their_program,
+    tool_words_ask_for_one_command, words_ask_for_their_program,
 };
 pub use reading::read_words;
 pub use tool::Tool;

@@ -1,0 +1,92 @@
+-- What the tool does: what it reads, draws and prints, and how it ends.
+use Rattle.std.specs.Prelude.{◌≡◌, ◌⊎◌, ℕ, List, length}
+use Rattle.fk_base.specs.declared.status.Status.{Status}
+use Rattle.fk_trace.specs.declared.change.Change.{Change}
+use Rattle.fk_host.specs.Disk.{IfTold}
+use Rattle.fk_journal.specs.declared.fault.JournalErr.{JournalErr}
+use Rattle.fk_log.specs.declared.usage_fault.UsageFault.TheVariants as usage
+use Rattle.fk_log.specs.Printing.{SinkView}
+use Rattle.fk_child.specs.View.{View}
+use Rattle.fk_ledger.specs.Holds.{HoldsLedger}
+use Rattle.fk_words.specs.declared.command.Command.{Command}
+use Rattle.fk_words.specs.declared.command.Command.TheVariants as command
+use Rattle.fk_words.specs.declared.tool.Tool.TheVariants.{Fko}
+use Rattle.fk_words.specs.declared.word_fault.WordFault.{WordFault}
+use Rattle.fk_words.specs.ReadsWords.{IsWordErr, ReadsWords}
+use Rattle.fk_program.specs.Faults.{Tells, fault_of_words}
+use Rattle.fk_program.specs.Faults.Fault.{WrongWords}
+use Rattle.fk_program.specs.Telling.{Shows, Stops}
+use Rattle.fk_client.specs.Running.{MakesKeys}
+use Rattle.fk_view.specs.Viewing.{SaysTheSame}
+use Rattle.fk_view.specs.Viewing.{FailsToView, OnlyReads, view_status, view_text}
+use Rattle.fk_tool.specs.declared.help.TheConstants.{HELP, VERSION}
+use Rattle.fk_tool.specs.Generated.{IsGeneratedText}
+use Rattle.fk_tool.specs.JournalText.{AreShown}
+use Rattle.fk_tool.specs.Lines.{ShowsLines}
+use Rattle.fk_tool.specs.Outside.{Outside}
+
+-- only the output was asked for something
+pub record OnlyPrints (old new : Outside) : Type 0 where
+  pub entropy : new.entropy ≡ old.entropy
+  pub disk : SaysTheSame old.disk new.disk
+
+-- the areas hold this ledger, and its changes are shown
+pub record ShowsLedger (old new : View) (sink printed : SinkView) (answer : Status) : Type 0 where
+  pub ledger : List Change
+  pub held : IfTold old.told new.told (λ before later. HoldsLedger before.areas ledger)
+  pub unfailed : new.faults ≡ old.faults
+  pub shows : ShowsLines (AreShown ledger) (length ledger) sink printed answer
+
+-- no ledger was read, and it is told why
+pub record ShowsNothing (old new : View) (sink printed : SinkView) (answer : Status) : Type 0 where
+  pub fault : JournalErr
+  pub fails : FailsToView fault old new
+  pub told : Stops (view_status fault) (view_text fault) sink printed answer
+
+-- The changes of the journal are shown, or it is told why not. The disk is only read.
+pub record PrintsJournal (old new : View) (sink printed : SinkView) (answer : Status) : Type 0 where
+  pub disk : OnlyReads old new
+  pub came : ShowsLedger old new sink printed answer ⊎ ShowsNothing old new sink printed answer
+
+-- what a command of the tool does; the two that are still to come are told as an unknown word
+abbrev pub Runs : Command → Outside → Outside → Status → Type 0
+Runs (command.Generate count) old new answer = OnlyPrints old new × ShowsLines IsGeneratedText count old.sink new.sink answer
+Runs command.KeyGen old new answer = SaysTheSame old.disk new.disk × MakesKeys old.entropy new.entropy old.sink new.sink answer
+Runs command.Journal old new answer = (new.entropy ≡ old.entropy) × PrintsJournal old.disk new.disk old.sink new.sink answer
+Runs (command.Encode file name) old new answer = OnlyPrints old new × Tells (WrongWords (usage.Unknown 1)) old.sink new.sink answer
+Runs (command.Decode file name) old new answer = OnlyPrints old new × Tells (WrongWords (usage.Unknown 1)) old.sink new.sink answer
+Runs command.Help old new answer = OnlyPrints old new × Shows HELP.now old.sink new.sink answer
+Runs command.Version old new answer = OnlyPrints old new × Shows VERSION.now old.sink new.sink answer
+Runs (command.Serve conf access packets turns verbose) old new answer = ⊥
+Runs (command.Trial conf access quiet verbose) old new answer = ⊥
+Runs command.List old new answer = ⊥
+Runs (command.Send send) old new answer = ⊥
+
+-- the words are no command, and the first test that they fail is told; or memory is wanting for the names that they give
+pub record RefusesWords (words : List (List ℕ)) (old new : Outside) (answer : Status) : Type 0 where
+  pub fault : WordFault
+  pub first : IsWordErr Fko words fault
+  pub only : OnlyPrints old new
+  pub told : Tells (fault_of_words fault) old.sink new.sink answer
+
+-- the words are a command, and it is done
+pub record ObeysWords (words : List (List ℕ)) (old new : Outside) (answer : Status) : Type 0 where
+  pub command : Command
+  pub reads : ReadsWords Fko words command
+  pub runs : Runs command old new answer
+
+-- what the tool does with its words
+abbrev pub RunsTool : List (List ℕ) → Outside → Outside → Status → Type 0
+RunsTool words old new answer = RefusesWords words old new answer ⊎ ObeysWords words old new answer
+
+-- the command is still to come
+abbrev pub IsToCome : Command → Type 0
+IsToCome (command.Encode file name) = Unit {0}
+IsToCome (command.Decode file name) = Unit {0}
+IsToCome _ = ⊥
+
+-- the words ask for a command that is still to come
+pub record AsksForMore (words : List (List ℕ)) : Type 0 where
+  pub command : Command
+  pub reads : ReadsWords Fko words command
+  pub later : IsToCome command
