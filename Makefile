@@ -3,7 +3,7 @@
 PREFIX ?= /usr/local
 export PREFIX DESTDIR
 
-PROGRAMS = fwknopd fwknop
+PROGRAMS = fwknopd fwknop fko
 
 # the manual pages, each in the folder of its section
 MANUAL = $(wildcard docs/man/*.[158])
@@ -48,10 +48,12 @@ test: ## runs the stored runs, the tests of crates and the scripts of tests/ fro
 check: ## runs the gate: proofs, tests, planted bugs, programs and the scripts of tests/
 	.ci/run
 
-bench: bin/fwknopd bin/fk_speed ## measures the built programs; bench/README.md says how to read the tables
+bench: bin/fwknopd bin/fko bin/fk_speed ## measures the built programs; bench/README.md says how to read the tables
 	bench/primitives
 	bench/packets
+	bench/closes
 	bench/trial
+	bench/large
 	bench/admission
 	bench/serve
 

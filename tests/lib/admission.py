@@ -6,6 +6,8 @@ from packet import Keys, opened, shape_fault
 @dataclasses.dataclass(frozen=True)
 class Stanza:
     keys: Keys = Keys()
+    # the pairs of keys in the order of the file, each with its last moment or none; without any it has `keys` alone
+    ring: tuple = ()
     # nets; none of them means ANY
     sources: tuple = ()
     allowed: tuple | None = None
@@ -18,13 +20,28 @@ class Stanza:
     closing: str = "/bin/c $IP"
 
 
+def pairs_of(stanza):
+    """The stanza's pairs of keys, each with its last moment or none."""
+    return stanza.ring or ((stanza.keys, None),)
+
+
+def written_keys(stanza):
+    """The lines of its keys."""
+    lines = []
+    for keys, until in pairs_of(stanza):
+        lines.append("KEY_BASE64 " + base64.b64encode(keys.key).decode())
+        lines.append("HMAC_KEY_BASE64 " + base64.b64encode(keys.mac_key).decode())
+        lines.append("HMAC_DIGEST_TYPE " + keys.kind)
+        if until is not None:
+            lines.append(f"KEYS_UNTIL {until}")
+    return lines
+
+
 def written(stanza):
     """The stanza's lines in an access file."""
     lines = [
         "SOURCE " + (", ".join(stanza.sources) or "ANY"),
-        "KEY_BASE64 " + base64.b64encode(stanza.keys.key).decode(),
-        "HMAC_KEY_BASE64 " + base64.b64encode(stanza.keys.mac_key).decode(),
-        "HMAC_DIGEST_TYPE " + stanza.keys.kind,
+        *written_keys(stanza),
         f"CMD_CYCLE_TIMER {stanza.timer}",
         "CMD_CYCLE_OPEN " + stanza.opening,
         "CMD_CYCLE_CLOSE " + stanza.closing,
@@ -46,15 +63,31 @@ def has_source(stanza, source):
     return not stanza.sources or any(ipaddress.ip_address(source) in ipaddress.ip_network(it, strict=False) for it in stanza.sources)
 
 
+def picked(stanza, moment, datagram):
+    """The fields under the first pair in use that opens the datagram and no refusal, or no fields and the refusal."""
+    why = "mac"
+    for keys, until in pairs_of(stanza):
+        if until is not None and moment > until:
+            continue
+        fields, fault = opened(datagram, keys)
+        if fault is None:
+            return fields, None
+        if fault.startswith("KindOut"):
+            return None, "kind"
+        if fault != "Mac" and why == "mac":
+            why = "cipher" if fault == "Cipher" else "plain"
+    return None, why
+
+
 def tried(stanza, age, moment, source, datagram):
     """The fields that the stanza lets in and no refusal, or no fields and the refusal of the first condition that fails."""
     if not has_source(stanza, source):
         return None, "no-stanza"
     if stanza.expires is not None and moment > stanza.expires:
         return None, "expired"
-    fields, fault = opened(datagram, stanza.keys)
-    if fault is not None:
-        return None, {"Mac": "mac", "Cipher": "cipher"}.get(fault, "kind" if fault.startswith("KindOut") else "plain")
+    fields, refusal = picked(stanza, moment, datagram)
+    if refusal is not None:
+        return None, refusal
     if abs(moment - fields.stamp) > age:
         return None, "age"
     if stanza.user not in (None, fields.user):

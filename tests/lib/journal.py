@@ -107,6 +107,11 @@ def records(data):
     return made, live
 
 
+def selected(head, one, two):
+    """Which of the two files counts, by the first byte of the third."""
+    return two if head[:1] and head[0] % 2 == 1 else one
+
+
 def listing(data):
     """What `fwknopd --fw-list` prints over these bytes, and its status."""
     try:

@@ -27,4 +27,4 @@ examples:
 ";
 
 /// What `--version` prints.
-pub(crate) const VERSION: &[u8] = b"fwknop 3.0.0\n";
+pub(crate) const VERSION: &[u8] = b"fwknop 0.1 (Viltsoem, packets 3.0.0)\n";

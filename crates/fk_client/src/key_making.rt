@@ -19,7 +19,7 @@ const KEYS_BYTES: usize = 96;
 const CIPHER_KEY_BYTES: usize = 32;
 
 /// Draws new keys and prints their two lines. What it takes of memory it takes before it prints.
-pub(crate) fn make_keys<N: Entropy, K: Sink>(alloc: Global, entropy: &mut N, out: &mut K) -> Status
+pub fn make_keys<N: Entropy, K: Sink>(alloc: Global, entropy: &mut N, out: &mut K) -> Status
     ensures { let from = entropy_by N.Entropy in let at = sink_by K.Sink in
         MakesKeys (from entropy.old) (from entropy.new) (at out.old) (at out.new) result }
 {

@@ -4,5 +4,5 @@ ghost use Rattle.fk_client.specs.declared.help.TheConstants.{VERSION};
 
 /// The text of `--version`: a line that names the program, and the version that packets carry.
 pub fn version_has_its_text()
-    ensures { VERSION.now ≡ codes "fwknop 3.0.0" ++ 10 ∷ [] }
+    ensures { VERSION.now ≡ codes "fwknop 0.1 (Viltsoem, packets 3.0.0)" ++ 10 ∷ [] }
 {}

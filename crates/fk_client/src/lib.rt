@@ -24,6 +24,7 @@ mod settling;
 mod stanzas;
 
 pub use command::fwknop_run;
+pub use key_making::make_keys;
 pub use laws::version_has_its_text;
 pub use need_fault::NeedFault;
 pub use packing::{DRAWN_BYTES, packet};

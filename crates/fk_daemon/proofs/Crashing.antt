@@ -378,17 +378,20 @@ module _ (settles : SettlesCleanly) (once : AttemptsOnce) (run : Run) (tried : L
   moments-join old mid new x y z opening both =
       let items = both.0 in
       let moments = both.1 in
-      let begun = opening.since in
+      let begun = opening.first.since in
       let synced = opening.then.later in
       let on = moments.later in
       record {
         past = past_then x.moments y.moments old mid new (omega (arith, begun, synced)) opening.past moments.past;
         unsynced = opening.unsynced;
-        since = opening.since;
-        soon = opening.soon;
+        first = record {
+          since = begun;
+          soon = opening.first.soon;
+          within = omega (arith, synced, on);
+          stood = λ k image low high now. opening.first.stood k image low high ((moments.past k image (omega (arith, high, synced))).0 now);
+        };
         before = recursion-weaker (λ (item : Item). (y.moments < item.moments) × (item.moments ≤ z.moments)) (λ item. opening.unsynced < item.moments)
             (λ item h. let u = h.0 in omega (arith, u, synced)) (trace_of run) items.placed;
-        first = λ k image low high now. opening.first k image low high ((moments.past k image (omega (arith, high, synced))).0 now);
         then = record {
           later = omega (arith, synced, on);
           past = λ k image low. (λ h. h, λ h. h);

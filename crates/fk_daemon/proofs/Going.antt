@@ -66,6 +66,7 @@ rests-output conf at place out rests = record {
     limit = rests.stands.limit;
     room = rests.stands.room;
     unspent = rests.stands.unspent;
+    area = rests.stands.area;
     stands = rests.stands.stands;
     number = rests.stands.number;
   };

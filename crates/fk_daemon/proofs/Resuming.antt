@@ -4,7 +4,8 @@ use Rattle.fk_trace.specs.declared.change.Change.{Change}
 use Rattle.fk_run.specs.Place.{entry}
 use Rattle.fk_host.specs.Disk.{Above, IfTold}
 use Rattle.fk_conf.specs.declared.conf.Conf.{Conf}
-use Rattle.fk_journal.specs.Keeps.{IsOpening}
+use Rattle.fk_host.specs.declared.disk.Area.{Area}
+use Rattle.fk_journal.specs.Keeps.{StandsOn, IsOpening}
 use Rattle.fk_ledger.specs.Book.{Book}
 use Rattle.fk_ledger.specs.Holds.{HoldsLedger, KeepsLedger}
 use Rattle.fk_ledger.specs.Stretch.{IsLedgerOpening}
@@ -20,6 +21,7 @@ pub record Opened (conf : Conf) (ledger : Book) (old new : View) : Type 0 where
   pub held : IfTold old.told new.told (λ before later. HoldsLedger before.areas ledger.changes)
   pub fresh : (ledger.room ≡ conf.room) × (ledger.limit ≡ conf.live) × (ledger.is_spent ≡ false)
   pub keeps : KeepsLedger ledger.changes new.told new.images
+  pub area : StandsOn ledger.area new.told
   pub moments : (held : List Change) → IfTold old.told new.told (λ before later. HoldsLedger before.areas held → IsLedgerOpening held true old.images new.images before later)
   pub trace : IfTold old.told new.told (λ before later. later.trace ≡ before.trace)
   pub entries : IfTold old.told new.told (IsOpening old.images new.images)
@@ -40,6 +42,7 @@ resumed conf ledger daemon old new opened is tied settled =
           limit = ap (λ (book : Book). book.limit) is.0 ∙ opened.fresh.1;
           room = ap (λ (book : Book). book.room) is.0 ∙ opened.fresh.0;
           unspent = ap (λ (book : Book). book.is_spent) is.0 ∙ opened.fresh.2;
+          area = subst (λ (area : Area). StandsOn area new.told) (sym (ap (λ (book : Book). book.area) is.0)) opened.area;
           stands = record {
             tied = subst (λ (changes : List Change). IsTied daemon.crew new.above (entry changes)) same (tied new.above);
             keeps = subst (λ (changes : List Change). KeepsLedger changes new.told new.images) same opened.keeps;

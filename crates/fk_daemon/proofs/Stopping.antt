@@ -1,10 +1,10 @@
 -- A run from its beginning to its stop.
-use Rattle.std.proofs.Common.{◌≡◌, ℕ, ◌+◌, Bool, true, false, IsTrue, List, [], ◌∷◌, ◌++◌, length, map, refl, sym, ap, ◌∙◌, subst, ◌⊎◌, inl, inr, append_assoc, append-nil, length-append, arith, ◌≤◌}
+use Rattle.std.proofs.Common.{◌≡◌, ℕ, ◌+◌, Bool, true, false, IsTrue, List, [], ◌∷◌, ◌++◌, length, map, refl, sym, ap, ◌∙◌, subst, inl, inr, append_assoc, append-nil, length-append, arith, ◌≤◌}
 use Rattle.std.proofs.lemmas.List.{map-append}
 use Rattle.fk_trace.specs.declared.change.Change.{Change}
 use Rattle.fk_trace.specs.Trace.{Item, past_after}
 use Rattle.fk_trace.specs.declared.change.Change.TheVariants.{Done}
-use Rattle.fk_trace.specs.Ledger.{live, opens, dones}
+use Rattle.fk_trace.specs.Ledger.{live, dones}
 use Rattle.fk_trace.specs.Settled.{settlements}
 use Rattle.fk_trace.specs.Decision.{FeedTurn, Rules}
 use Rattle.fk_trace.proofs.Splits.{none_before}
@@ -13,7 +13,7 @@ use Rattle.fk_run.specs.Turn.{TakenTurn, CutTurn, after_turns}
 use Rattle.fk_run.specs.Run.{Run, Ending, cuts_turn}
 use Rattle.fk_run.specs.Run.Ending.{AtLimit, AtEnd, AtFeedFault, AtDiskFault, AtWantOfMemory}
 use Rattle.fk_run.specs.Planned.{planned}
-use Rattle.fk_run.specs.Ending.{ReachesLimit, FitsLimits, WantsAtDatagram, WantsAtClose}
+use Rattle.fk_run.specs.Ending.{ReachesLimit, FitsLimits}
 use Rattle.fk_run.proofs.Fronts.{past-after_turns}
 use Rattle.fk_host.specs.Count.{counted}
 use Rattle.fk_host.specs.Disk.{Told as TellsOf, IfTold}
@@ -25,7 +25,7 @@ use Rattle.fk_log.specs.Log.RefusalLine.{Told, Untold}
 use Rattle.fk_log.specs.Writing.{Logs}
 use Rattle.fk_log.proofs.Turns.{lines_of_turns-append}
 use Rattle.fk_child.specs.View.{MakesCalls, AddsItems, Adds, made_of}
-use Rattle.fk_turn.specs.Rules.{BringsRightCode, rules_by}
+use Rattle.fk_turn.specs.Rules.{rules_by}
 use Rattle.fk_turn.specs.declared.policy.Policy.{Policy}
 use Rattle.fk_turn.specs.Wanting.{WantsMemoryAt}
 use Rattle.fk_turn.specs.Serving.{BeginsAt, FailsAtDisk, WantsMemory, OwesItsLive, calls_for}

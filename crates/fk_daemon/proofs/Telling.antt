@@ -35,7 +35,7 @@ items-behind items x y z same adds =
     }
 
 pub opening-later : (ledger : List Change) (whole : Bool) (old new : ℕ → Areas → Type 0) (x y : Told) → IsLedgerOpening ledger whole old new x y → x.moments ≤ y.moments
-opening-later ledger whole old new x y opening = let a = opening.since in let b = opening.then.later in omega arith
+opening-later ledger whole old new x y opening = let a = opening.first.since in let b = opening.then.later in omega arith
 
 pub opened-then : (ledger : List Change) (old new : ℕ → Areas → Type 0) (x y : Told)
     → (y.trace ≡ x.trace) → IsLedgerOpening ledger true old new x y → (y.trace ≡ x.trace) × (x.moments ≤ y.moments)
@@ -46,8 +46,6 @@ pub opening-weaker : (ledger : List Change) (old new : ℕ → Areas → Type 0)
 opening-weaker ledger old new x y opening = record {
   past = opening.past;
   unsynced = opening.unsynced;
-  since = opening.since;
-  soon = opening.soon;
   first = opening.first;
   then = record { later = opening.then.later; past = opening.then.past; each = opening.then.each; all = λ never. absurd cc };
 }

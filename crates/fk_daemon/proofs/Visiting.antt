@@ -1,16 +1,13 @@
 -- What the calls of the daemon leave at each of their moments.
-use Rattle.std.proofs.Common.{◌≡◌, ◌⊎◌, ℕ, ◌<◌, ◌≤◌, true, List, Option, Some, None, refl, sym, subst, inl, inr, arith}
+use Rattle.std.proofs.Common.{◌≡◌, ◌⊎◌, ℕ, ◌<◌, ◌≤◌, Option, Some, None, subst, inl, inr, arith}
 use Rattle.std.specs.Prelude.{IfSome}
-use Rattle.std.specs.List.{AllByRecursion}
-use Rattle.fk_trace.specs.declared.change.Change.{Change}
 use Rattle.fk_trace.specs.Trace.{Item}
 use Rattle.fk_run.specs.Run.{trace_of}
-use Rattle.fk_run.specs.History.{IsVisit}
 use Rattle.fk_host.specs.Disk.{Areas, Told, IfTold}
 use Rattle.fk_journal.specs.Keeps.{selected, SameEntries, IsOpening}
 use Rattle.fk_journal.proofs.Uniqueness.{same_held}
 use Rattle.fk_ledger.specs.Payloads.{ledger_contents}
-use Rattle.fk_ledger.specs.Holds.{HoldsLedger, HoldsState}
+use Rattle.fk_ledger.specs.Holds.{HoldsLedger}
 use Rattle.fk_child.specs.View.{View, AddsItems}
 use Rattle.fk_child.proofs.Pieces.{recursion-weaker}
 use Rattle.fk_daemon.specs.declared.task.Task.{Task}
@@ -31,7 +28,7 @@ same-state from image same ledger state =
 
 module _ (task : Task) (account : Account) (old new : View) (before later : Told) (serving : IsServing task account) (adds : AddsItems (trace_of account.run) before later)
     (moments : RunMoments account.run (tried_changes account) old.images new.images before later) where
-  -- before its first call of the disk a run leaves what stood at entry
+  -- before its first calls of the disk have ended well a run leaves what stood at entry
   leaves-none : (moment : ℕ) (image : Areas) → moment ≤ moments.unsynced → old.images before.moments image → LeavesNone account old before moment image
   leaves-none moment image low stood =
       record {
@@ -41,14 +38,14 @@ module _ (task : Task) (account : Account) (old new : View) (before later : Told
 
   leaves-one : (moment : ℕ) (image : Areas) → before.moments ≤ moment → moment ≤ later.moments → new.images moment image → LeavesVisit account moment image ⊎ LeavesNone account old before moment image
   leaves-one moment image since until left =
-      let low = moments.since in
+      let low = moments.first.since in
       elim (order moment before.moments) [
         | inl entry ↦
             let same : moment ≡ before.moments = omega (arith, entry, since) in
             let stood : old.images moment image = (moments.past moment image entry).0 left in
             inr (leaves-none moment image (omega (arith, entry, low)) (subst (λ (k : ℕ). old.images k image) same stood))
         | inr behind ↦ elim (order moment moments.unsynced) [
-          | inl unsynced ↦ inr (leaves-none moment image unsynced (moments.first moment image behind unsynced left))
+          | inl unsynced ↦ inr (leaves-none moment image unsynced (moments.first.stood moment image behind unsynced left))
           | inr synced ↦
               let crash : HoldsRun account.run (tried_changes account) 0 moment image = moments.then.each moment image synced until left in
               inl (record {
@@ -77,7 +74,7 @@ opening-one old new before later read opening moment image since until left =
           let same : moment ≡ before.moments = omega (arith, entry, since) in
           itself (subst (λ (k : ℕ). old.images k image) same ((opening.past moment image entry).0 left))
       | inr behind ↦ elim (order moment opening.unsynced) [
-        | inl unsynced ↦ itself (opening.first moment image behind unsynced left)
+        | inl unsynced ↦ itself (opening.first.stood moment image behind unsynced left)
         | inr synced ↦ (before.areas, read, same-state before.areas image (opening.then moment image synced until left))
       ]
     ]

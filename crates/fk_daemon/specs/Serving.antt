@@ -90,7 +90,7 @@ pub record ServesRun (task : Task) (old new : Outside) (answer : Status) : Type 
   pub caused : HasCauses account.run.ending old new
 
 -- The calls of an opening that failed: the trace is as before, and where the areas held a ledger, a crash at any moment leaves it, or,
--- until the first call has ended well, what a crash could leave at entry. Whatever they held, the journal's area has the entries that
+-- until the first calls have ended well, what a crash could leave at entry. Whatever they held, the journal's area has the entries that
 -- it had, and the other areas are as before.
 pub record OpensInVain (old new : View) : Type 0 where
   pub trace : IfTold old.told new.told (λ before later. later.trace ≡ before.trace)

@@ -1,5 +1,5 @@
 -- What a call leaves of the areas, as far as a ledger is concerned: what a crash leaves of a run, or what stood there before it.
-use Rattle.std.specs.Prelude.{◌≡◌, ◌⊎◌, ℕ, ◌<◌, ◌≤◌, List}
+use Rattle.std.specs.Prelude.{◌⊎◌, ℕ, ◌<◌, ◌≤◌, List}
 use Rattle.std.specs.List.{AllByRecursion}
 use Rattle.fk_trace.specs.declared.change.Change.{Change}
 use Rattle.fk_run.specs.Run.{trace_of}

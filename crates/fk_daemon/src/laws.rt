@@ -9,7 +9,7 @@ ghost use Rattle.fk_daemon.specs.Visits.{LeavesRun, LeavesAsBefore};
 use fk_host::Disk;
 
 /// Whatever a call of the daemon leaves at a moment is what a crash there leaves of its run, which is then a visit of a history; or,
-/// before its first call of the disk has ended well, what stood at entry. An opening that fails leaves what stood at entry, as far as
+/// before its first calls of the disk have ended well, what stood at entry. An opening that fails leaves what stood at entry, as far as
 /// a ledger is concerned.
 pub fn what_serving_leaves_is_of_a_visit<H: Disk>()
     ensures run { (old new : H) (task : Task) (account : Account) → IsServing task account → RunsOn account (view_of H.Disk old) (view_of H.Disk new)

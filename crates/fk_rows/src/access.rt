@@ -1,6 +1,6 @@
 //! The calls of fk_access: access files.
 use crate::showing::{put_bytes_if, put_net, put_number_if, put_pairs};
-use fk_access::{Access, AccessErr, PairList, Sources, Stanza, read_access};
+use fk_access::{Access, AccessErr, PairList, Sources, Stanza, TimedKeys, read_access};
 use fk_base::{FILE_LIMIT, NoMemory};
 use fk_row_text::{Answer, Arguments, RowFault};
 use std::alloc::Global;
@@ -97,11 +97,23 @@ fn put_list(list: Option<&PairList>, answer: &mut Answer) -> Result<(), NoMemory
 }
 
 fn put_secrets(stanza: &Stanza, answer: &mut Answer) -> Result<(), NoMemory> {
-    answer.word(b"key")?;
-    answer.text(stanza.keys.key.as_slice())?;
-    answer.word(b"hmac")?;
-    answer.name(&stanza.keys.kind)?;
-    answer.text(stanza.keys.mac_key.as_slice())?;
+    for at in 0..stanza.ring.count() {
+        put_timed_keys(stanza.ring.get(at), answer)?;
+    }
     answer.word(b"user")?;
     put_bytes_if(stanza.user.as_ref(), answer)
+}
+
+/// Adds a pair of keys, and where it has one its last moment.
+fn put_timed_keys(timed: &TimedKeys, answer: &mut Answer) -> Result<(), NoMemory> {
+    answer.word(b"key")?;
+    answer.text(timed.keys.key.as_slice())?;
+    answer.word(b"hmac")?;
+    answer.name(&timed.keys.kind)?;
+    answer.text(timed.keys.mac_key.as_slice())?;
+    if let Some(until) = timed.until {
+        answer.word(b"until")?;
+        answer.number(until)?;
+    }
+    Ok(())
 }

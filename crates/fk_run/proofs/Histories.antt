@@ -15,11 +15,11 @@ use Rattle.fk_trace.proofs.Ledgers.{opens-append, dones-append}
 use Rattle.fk_run.specs.Run.{trace_of, changes_of}
 use Rattle.fk_run.specs.Headline.{OpensOnce, opens_attempted}
 use Rattle.fk_run.specs.Left.{items_behind, crashed}
-use Rattle.fk_run.specs.History.{Visit, IsVisit, IsHistory, FollowOn, left_in_the_end, trace_left, changes_left, ledger_left, OpensByGrantOnly, StartsAllThatIsOwed, AttemptsBelongTo, OpensOnceEver, IsOn, EndedIn, StaysOwed}
+use Rattle.fk_run.specs.History.{Visit, IsVisit, IsHistory, FollowOn, left_in_the_end, trace_left, changes_left, ledger_left, OpensByGrantOnly, StartsAllThatIsOwed, ClosesAtFirstDue, AttemptsBelongTo, OpensOnceEver, IsOn, EndedIn, StaysOwed}
 use Rattle.fk_run.proofs.Cutting.{split-at}
 use Rattle.fk_run.proofs.Ledgers.{settled-below, seen-apart, live-unless_settled, live-recorded}
 use Rattle.fk_run.proofs.Leaves.{leaves-ledger}
-use Rattle.fk_run.proofs.Owed.{starts-owed}
+use Rattle.fk_run.proofs.Owed.{starts-owed, starts-first_due}
 use Rattle.fk_run.proofs.Runs.{opens-run, once-run}
 use Rattle.fk_run.proofs.Pairs.{pairs-behind, pair-across, pairs-joined}
 use Rattle.fk_run.proofs.Stays.{Stay, IsStay, StaysFollow, all_attempted, stays-fresh, stays-distinct}
@@ -77,6 +77,9 @@ module _ (visit : Visit) (is : IsVisit visit) where
 
   pub starts-left : StartsAllThatIsOwed visit
   starts-left = λ front taken whole. starts-owed visit.run is.legal front taken whole
+
+  pub first_due-left : ClosesAtFirstDue visit
+  first_due-left = λ front taken whole item first. starts-first_due visit.run is.legal is.ledger front taken whole item first
 
   -- the numbers of what was left
   ids-left : opens_attempted (trace_left visit) ++ once-left.unattempted ≡ map (λ item. item.id) (opens (changes_left visit))

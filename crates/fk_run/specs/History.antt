@@ -1,7 +1,7 @@
 -- Runs that follow one another over the same areas, and the headline over all of them.
 use Rattle.std.specs.Prelude.{◌≡◌, ◌≢◌, ◌⊎◌, ℕ, ◌<◌, List, [], ◌∷◌, ◌++◌, map, take}
 use Rattle.std.specs.List.{AllZip, AllPairs, AllByRecursion, Contains, flat_map}
-use Rattle.fk_base.specs.declared.purpose.Purpose.TheVariants.{Open}
+use Rattle.fk_base.specs.declared.purpose.Purpose.TheVariants.{Open, Close}
 use Rattle.fk_trace.specs.declared.change.OpenRecord.{OpenRecord}
 use Rattle.fk_trace.specs.declared.change.Change.{Change}
 use Rattle.fk_trace.specs.Trace.{Item}
@@ -11,7 +11,7 @@ use Rattle.fk_trace.specs.Attempts.{IsAttempt}
 use Rattle.fk_run.specs.Turn.{TakenTurn}
 use Rattle.fk_run.specs.Run.{Run, trace_of}
 use Rattle.fk_run.specs.Legal.{Legal}
-use Rattle.fk_run.specs.Headline.{OpensByGrant, IsWholeTurnOf, StartsWhatIsOwed, opens_attempted}
+use Rattle.fk_run.specs.Headline.{OpensByGrant, IsWholeTurnOf, IsFirstDue, AttemptedIn, StartsWhatIsOwed, opens_attempted}
 use Rattle.fk_run.specs.Left.{IsLeft, items_by}
 
 -- A run as it was left: at a crash at a moment, or at its end, which is its last moment.
@@ -72,6 +72,13 @@ OpensByGrantOnly visit =
 abbrev pub StartsAllThatIsOwed : Visit → Type 0
 StartsAllThatIsOwed visit =
     (front : List TakenTurn) (taken : TakenTurn) → IsWholeTurnOf visit.run front taken → StartsWhatIsOwed visit.run front taken
+
+-- Each of its turns that is not cut attempts the close of each record of which it is the first turn of this run at or past the due,
+-- whichever run recorded it.
+abbrev pub ClosesAtFirstDue : Visit → Type 0
+ClosesAtFirstDue visit =
+    (front : List TakenTurn) (taken : TakenTurn) → IsWholeTurnOf visit.run front taken → (item : OpenRecord)
+    → IsFirstDue visit.run front taken item → AttemptedIn taken.items (Close item.id) item.close
 
 -- the records that the open attempts of a run belong to, one for each attempt, failed ones too, in their order
 abbrev pub AttemptsBelongTo : Visit → List OpenRecord → Type 0

@@ -35,8 +35,9 @@ use Rattle.fk_trial.specs.Trial.{HasStatus as HasTrialStatus}
 use Rattle.fk_program.specs.Faults.{Fault, fault_status, fault_of_words}
 use Rattle.fk_program.specs.Faults.Fault.{WrongWords, FileNotHeld, FileNotRead, WrongFile, WantsMemory}
 use Rattle.fk_program.specs.Telling.{printed_status}
-use Rattle.fk_serve.specs.World.{World, SaysTheSame}
-use Rattle.fk_serve.specs.Listing.{OnlyReads, Lists, FailsToView, view_status}
+use Rattle.fk_view.specs.Viewing.{FailsToView, OnlyReads, SaysTheSame, view_status}
+use Rattle.fk_serve.specs.World.{World}
+use Rattle.fk_serve.specs.Listing.{Lists}
 use Rattle.fk_serve.specs.Running.{Runs, RunsWords}
 use Rattle.fk_serve.specs.Calls.{Handed, Call, IsCall, AreCalls, AreHistory, IsAtEntry, IsLeftBy, IsLeftAfter, FollowCalls, IsRunOf, AddsNone, IsPart, visits_of, world_of}
 

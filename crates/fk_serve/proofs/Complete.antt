@@ -12,7 +12,8 @@ use Rattle.fk_program.specs.Faults.{fault_of_words, fault_status}
 use Rattle.fk_serve.specs.Running.{Runs, RunsWords}
 use Rattle.fk_serve.specs.Causes.{FailsByAnswer}
 use Rattle.fk_serve.specs.Ready.{EndsWell, IsReadyFor, MeetsNoFault}
-use Rattle.fk_serve.proofs.Ended.{IsCalm, NoneBoth, calm, list-ends, printed-ends, refused-ends, serving-ends}
+use Rattle.fk_view.proofs.Viewed.{NoneBoth}
+use Rattle.fk_serve.proofs.Ended.{IsCalm, calm, list-ends, printed-ends, refused-ends, serving-ends}
 use Rattle.fk_serve.proofs.Tried.{trying-ends}
 
 runs-end : (asked : Command) (old new : World) (answer : Status) → Runs asked old new answer → IsReadyFor asked old new → IsCalm answer → NoneBoth → EndsWell answer

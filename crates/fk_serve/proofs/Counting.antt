@@ -12,7 +12,8 @@ use Rattle.fk_daemon.specs.declared.task.Task.{Task}
 use Rattle.fk_daemon.specs.Outside.{FeedView, Outside}
 use Rattle.fk_daemon.specs.Serving.{HasStatus, Serves, SaysWhyUnopened}
 use Rattle.fk_trial.specs.Streams.{SourceView}
-use Rattle.fk_serve.specs.World.{World, LeavesRest, SaysTheSame}
+use Rattle.fk_view.proofs.Viewed.{same-host}
+use Rattle.fk_serve.specs.World.{World, LeavesRest}
 use Rattle.fk_program.specs.Faults.{Fault, Tells, fault_of_words, fault_status}
 use Rattle.fk_program.specs.Files.{FilesView}
 use Rattle.fk_program.proofs.Counting.{Blames, fault-blames, file-count, shown-blames, shows-sink, tells-sink, words-spare-files}
@@ -79,10 +80,6 @@ serving-answers task old new answer serves =
       | inl run ↦ run-answers run.account.run.ending run.is_broken answer run.answered
       | inr none ↦ none-answers task.verbosity answer none.is_broken old new none.why
     ]
-
--- a host that no call was made of
-pub same-host : (host : View) → SaysTheSame host host
-same-host host = record { told = refl; images = λ k image. (λ h. h, λ h. h); faults = refl; above = refl }
 
 -- the first fault of the files was told, and nothing but the output asked
 pub refused-files : (names : Names) (fault : Fault) (answer : Status) (input : SourceView) (old new : FilesView) (outside : Outside) (sink : SinkView)

@@ -27,13 +27,15 @@ use Rattle.fk_program.specs.Faults.{Fault, fault_status}
 use Rattle.fk_program.specs.Faults.Fault.{WrongWords, FileNotHeld, FileNotRead, WrongFile, WantsMemory}
 use Rattle.fk_program.specs.Files.{FailsFile, FilesView}
 use Rattle.fk_program.specs.Telling.{printed_status}
+use Rattle.fk_view.specs.Viewing.{FailsToView, HoldsSome, view_status}
+use Rattle.fk_view.proofs.Viewed.{NoneBoth, not_damaged}
 use Rattle.fk_serve.specs.World.{World}
 use Rattle.fk_serve.specs.FaultNames.{access_fault_name}
 use Rattle.fk_serve.specs.Files.{Names, FailsFiles}
-use Rattle.fk_serve.specs.Listing.{Lists, FailsToView, view_status}
+use Rattle.fk_serve.specs.Listing.{Lists}
 use Rattle.fk_serve.specs.Running.{RefusesFiles}
 use Rattle.fk_serve.specs.Causes.{FailsByAnswer}
-use Rattle.fk_serve.specs.Ready.{CountsNone, EndsWell, HoldsRight, HoldsSome}
+use Rattle.fk_serve.specs.Ready.{CountsNone, EndsWell, HoldsRight}
 
 -- a count with a fault more rose
 rose-counted : (n : ℕ) → Rose n (counted n)
@@ -83,15 +85,6 @@ run-ends AtWantOfMemory is_broken answer is calm = inr is
 run-ends (AtBadLine line) is_broken answer is calm = absurd is
 run-ends (AtLongInput line) is_broken answer is calm = absurd is
 run-ends AtReadFault is_broken answer is calm = absurd is
-
--- no areas hold a ledger and are damaged
-abbrev pub NoneBoth : Type 0
-NoneBoth = (image : Areas) (ledger : List Change) (place : ℕ) → HoldsLedger image ledger → IsLedgerDamagedAt image place → ⊥
-
-pub not_damaged : (old new : Option Told) (place : ℕ) → NoneBoth → HoldsSome old → IsSome new → IfTold old new (λ before later. IsLedgerDamagedAt before.areas place) → ⊥
-not_damaged None new place none holds tells damaged = absurd holds
-not_damaged (Some before) None place none holds tells damaged = cc
-not_damaged (Some before) (Some later) place none holds tells damaged = none before.areas holds.0 place holds.1 damaged
 
 none-ends : (verbosity : Verbosity) (answer : Status) (is_broken : Bool) (old new : Outside) → SaysWhyUnopened verbosity answer is_broken old new
     → IsCalm answer → NoneBoth → HoldsSome old.host.told → IsSome new.host.told → EndsWell answer

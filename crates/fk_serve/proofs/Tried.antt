@@ -25,7 +25,7 @@ use Rattle.fk_serve.specs.Ready.{EndsWell, HoldsTurns}
 use Rattle.fk_serve.specs.Running.{RefusesFiles, Runs, TriesByFiles, trying_verbosity}
 use Rattle.fk_program.specs.Files.{FilesView}
 use Rattle.fk_serve.specs.World.{World}
-use Rattle.fk_serve.proofs.Counting.{same-host}
+use Rattle.fk_view.proofs.Viewed.{same-host}
 use Rattle.fk_serve.proofs.Ended.{IsCalm}
 
 -- an input has one fault at most, whatever its lines mean

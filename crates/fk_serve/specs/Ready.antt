@@ -1,11 +1,9 @@
 -- When a run of the program has to end well, unless memory is wanting.
-use Rattle.std.specs.Prelude.{◌≡◌, ◌⊎◌, ℕ, List, Option, None, IsSome, IsSomeAnd}
+use Rattle.std.specs.Prelude.{◌≡◌, ◌⊎◌, ℕ, List, Option, None, IsSomeAnd}
 use Rattle.fk_base.specs.declared.status.Status.{Status}
 use Rattle.fk_base.specs.declared.status.Status.TheVariants as status
-use Rattle.fk_trace.specs.declared.change.Change.{Change}
 use Rattle.fk_trace.specs.Decision.{FeedTurn}
 use Rattle.fk_host.specs.Count.{Rose}
-use Rattle.fk_host.specs.Disk.{Told}
 use Rattle.fk_host.specs.Files.{bytes_of_file}
 use Rattle.fk_conf.specs.ConfErr.{conf_fault}
 use Rattle.fk_words.specs.declared.command.Command.{Command}
@@ -13,27 +11,19 @@ use Rattle.fk_words.specs.declared.command.Command.TheVariants as command
 use Rattle.fk_words.specs.declared.tool.Tool.TheVariants.{Daemon}
 use Rattle.fk_words.specs.ReadsWords.{ReadsWords}
 use Rattle.fk_access.specs.AccessFault.{access_fault}
-use Rattle.fk_ledger.specs.Holds.{HoldsLedger}
 use Rattle.fk_input.specs.Lines.{pieces}
 use Rattle.fk_trial.specs.Lines.{ReadsTurns}
 use Rattle.fk_program.specs.Files.{FilesView}
+use Rattle.fk_view.specs.Viewing.{HoldsToTheEnd}
 use Rattle.fk_serve.specs.World.{World}
 
 -- a file of this name is held, and its text has no fault by this test
 abbrev pub HoldsRight : {X : Type 0} → (List ℕ → Option X) → List ℕ → FilesView → Type 0
 HoldsRight test name files = IsSomeAnd files.held (λ held. IsSomeAnd (bytes_of_file name held) (λ text. test text ≡ None))
 
--- the areas hold a ledger
-abbrev pub HoldsSome : Option Told → Type 0
-HoldsSome told = IsSomeAnd told (λ now. (ledger : List Change) × HoldsLedger now.areas ledger)
-
 -- each line of the input is a turn, and there are not too many
 abbrev pub HoldsTurns : Option (List ℕ) → Type 0
 HoldsTurns left = IsSomeAnd left (λ text. (turns : List FeedTurn) × ReadsTurns (pieces text) turns None)
-
--- the areas hold a ledger, and the host tells to the end
-abbrev pub HoldsToTheEnd : Option Told → Option Told → Type 0
-HoldsToTheEnd old new = HoldsSome old × IsSome new
 
 -- what the command reads is there, and right
 abbrev pub IsReadyFor : Command → World → World → Type 0

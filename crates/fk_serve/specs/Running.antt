@@ -16,11 +16,12 @@ use Rattle.fk_input.specs.Lines.{input_limit}
 use Rattle.fk_trial.specs.Streams.{TakesAtMost}
 use Rattle.fk_trial.specs.Trial.{Tries}
 use Rattle.fk_serve.specs.declared.help.TheConstants.{HELP, VERSION}
-use Rattle.fk_serve.specs.World.{World, LeavesRest, SaysTheSame, streams_of}
+use Rattle.fk_serve.specs.World.{World, LeavesRest, streams_of}
 use Rattle.fk_serve.specs.Files.{Names, ReadsFiles, FailsFiles}
 use Rattle.fk_serve.specs.Listing.{Lists}
 use Rattle.fk_program.specs.Faults.{Fault, Tells, fault_of_words}
 use Rattle.fk_program.specs.Telling.{Shows}
+use Rattle.fk_view.specs.Viewing.{SaysTheSame}
 
 -- both files were read, and the feed's turns were served by them under these limits
 pub record ServesByFiles (names : Names) (limits : Limits) (verbosity : Verbosity) (old new : World) (answer : Status) : Type 0 where

@@ -1,14 +1,13 @@
 -- What the objects that a run of the program is handed say of themselves.
-use Rattle.std.specs.Prelude.{◌≡◌, ◌↔◌, ℕ}
+use Rattle.std.specs.Prelude.{◌≡◌}
 use Rattle.fk_host.specs.declared.disk.Disk.{Ghosts as DiskMeaning}
 use Rattle.fk_host.specs.declared.feed.Feed.{Ghosts as FeedMeaning}
 use Rattle.fk_host.specs.declared.files.Files.{Ghosts as FilesMeaning}
 use Rattle.fk_host.specs.declared.stream.Sink.{Ghosts as SinkMeaning}
 use Rattle.fk_host.specs.declared.stream.Source.{Ghosts as SourceMeaning}
-use Rattle.fk_host.specs.Disk.{Areas}
-use Rattle.fk_child.specs.View.{View}
 use Rattle.fk_daemon.specs.Outside.{Outside, outside_by}
 use Rattle.fk_program.specs.Files.{FilesView, files_by}
+use Rattle.fk_view.specs.Viewing.{SaysTheSame}
 use Rattle.fk_trial.specs.Streams.{SourceView, Streams, source_by}
 
 pub record World : Type 1 where
@@ -28,13 +27,6 @@ world_by files_means feed_means disk_means input_means sink_means = λ files fee
 -- the input and the output alone
 abbrev pub streams_of : World → Streams
 streams_of at = record { input = at.input; output = at.outside.sink }
-
--- the host says what it said
-pub record SaysTheSame (old new : View) : Type 0 where
-  pub told : new.told ≡ old.told
-  pub images : (k : ℕ) (image : Areas) → new.images k image ↔ old.images k image
-  pub faults : new.faults ≡ old.faults
-  pub above : new.above ≡ old.above
 
 -- nothing was asked of the feed, the host and the input
 pub record LeavesRest (old new : World) : Type 0 where

@@ -26,4 +26,4 @@ examples:
 ";
 
 /// What `--version` prints.
-pub(crate) const VERSION: &[u8] = b"fwknopd 3.0.0\n";
+pub(crate) const VERSION: &[u8] = b"fwknopd 0.1 (Viltsoem, packets 3.0.0)\n";

@@ -13,10 +13,10 @@ ghost use Rattle.fk_daemon.specs.Outside.{FeedView};
 
 use fk_base::Status;
 use fk_host::{Host, Sink};
-use fk_ledger::{Ledger, LedgerErr};
+use fk_ledger::Ledger;
 use fk_log::{LogItem, LogWriter, Verbosity, adjoining_lines_log_both, no_lines_log_nothing};
-use fk_program::say;
 use fk_trace::Change;
+use fk_view::refuse_view;
 use std::alloc::Global;
 
 /// Prints the live records of the ledger that the disk holds. All memory is taken before the first line is
@@ -29,15 +29,7 @@ pub(crate) fn list_records<H: Host, K: Sink>(alloc: Global, host: &mut H, out: &
 {
     match Ledger::view(alloc, host) {
         Ok(changes) => print_live(&changes, out),
-        Err(LedgerErr::Disk) => {
-            say(&LogItem::DiskFailed, out);
-            Status::DiskFault
-        }
-        Err(LedgerErr::Damaged(place)) => {
-            say(&LogItem::Damaged { place }, out);
-            Status::Damaged
-        }
-        Err(LedgerErr::NoMemory) => Status::NoMemory,
+        Err(fault) => refuse_view(fault, out),
     }
 }
 

@@ -1,5 +1,6 @@
 //! Calls of the ledger by itself, over the session's areas.
 ghost use Rattle.std.specs.Prelude.{◌≡◌, false};
+ghost use Rattle.fk_journal.specs.Keeps.{StandsOn};
 ghost use Rattle.fk_ledger.specs.Book.{live_ids};
 ghost use Rattle.fk_ledger.specs.Holds.{KeepsLedger};
 
@@ -185,6 +186,7 @@ fn record_on<D: Disk>(
 ) -> Result<&'static str, Fault>
     requires unspent { ledger.old.is_spent ≡ false }
     requires keeps { KeepsLedger ledger.old.changes (D.told disk.old) (D.may_leave disk.old) }
+    requires stands { StandsOn ledger.old.area (D.told disk.old) }
     requires owed { owed.old.items ≡ live_ids ledger.old.changes }
     ensures { owed.new.items ≡ live_ids ledger.new.changes }
 {

@@ -1,5 +1,5 @@
 -- A daemon that was resumed over a new host stands at the entry of a run.
-use Rattle.std.proofs.Common.{◌≡◌, false, List, [], refl, ap, ◌∙◌, subst, inl, arith}
+use Rattle.std.proofs.Common.{sym, ◌≡◌, false, List, [], refl, ap, ◌∙◌, subst, inl, arith}
 use Rattle.fk_trace.specs.declared.change.Change.{Change}
 use Rattle.fk_run.specs.Place.{entry}
 use Rattle.fk_host.specs.Disk.{Areas, Above, IfTold}
@@ -8,10 +8,12 @@ use Rattle.fk_memory.specs.Host.{HostState, told_of, leaves_of, above_of}
 use Rattle.fk_conf.specs.declared.conf.Conf.{Conf}
 use Rattle.fk_ledger.specs.Book.{Book}
 use Rattle.fk_ledger.specs.Holds.{HoldsLedger, KeepsLedger}
+use Rattle.fk_host.specs.declared.disk.Area.{Area}
+use Rattle.fk_child.specs.View.{StandsOnArea}
 use Rattle.fk_child.specs.Crew.{IsTied}
 use Rattle.fk_turn.specs.Daemon.{DaemonState}
 use Rattle.fk_trial.specs.Replay.{IsNewHost, IsTrialHost}
-use Rattle.fk_trial.specs.Sessions.{OpensDaemon}
+use Rattle.fk_trial.specs.Sessions.{OpensDaemon, view}
 use Rattle.fk_trial.proofs.Serving.{told-hosts}
 
 -- what the opening of a ledger over a new host says
@@ -19,6 +21,7 @@ pub record Opened (conf : Conf) (ledger : Book) (old new : HostState) : Type 0 w
   pub held : IfTold (told_of old) (told_of new) (λ before later. HoldsLedger before.areas ledger.changes)
   pub fresh : (ledger.room ≡ conf.room) × (ledger.limit ≡ conf.live) × (ledger.is_spent ≡ false)
   pub keeps : KeepsLedger ledger.changes (told_of new) (leaves_of new)
+  pub area : StandsOnArea ledger.area (view new)
   pub trace : IfTold (told_of old) (told_of new) (λ before later. later.trace ≡ before.trace)
   pub disk : new.faults ≡ old.faults
 
@@ -45,6 +48,7 @@ opened conf ledger daemon old new fresh opens one is tied settled told replay =
           limit = ap (λ (book : Book). book.limit) is.0 ∙ opens.fresh.1;
           room = ap (λ (book : Book). book.room) is.0 ∙ opens.fresh.0;
           unspent = ap (λ (book : Book). book.is_spent) is.0 ∙ opens.fresh.2;
+          area = subst (λ (area : Area). StandsOnArea area (view new)) (sym (ap (λ (book : Book). book.area) is.0)) opens.area;
           stands = record {
             tied = subst (λ (changes : List Change). IsTied daemon.crew (above_of new) (entry changes)) none (tied (above_of new));
             keeps = subst (λ (changes : List Change). KeepsLedger changes (told_of new) (leaves_of new)) none opens.keeps;

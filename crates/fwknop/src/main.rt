@@ -6,11 +6,13 @@
 use fk_base::{NoMemory, Status, Words};
 use fk_client::fwknop_run;
 use fk_program::argument_words;
-use fk_system::{DirFiles, StdSink, SysEntropy, UdpLink, system_moment};
-use std::io;
+use fk_system::{
+    DirFiles, StdSink, SysEntropy, TimedOutput, UdpLink, system_moment, take_closed_streams,
+};
 use std::process::ExitCode;
 
 fn main(rt: HostRuntime) -> ExitCode {
+    take_closed_streams(&rt);
     ExitCode::from(run(&rt).exit_code())
 }
 
@@ -39,6 +41,6 @@ fn run_words(rt: &HostRuntime, words: &Words) -> Status {
         &mut SysEntropy::new(for_entropy),
         system_moment(rt),
         &mut UdpLink::new(for_link),
-        &mut StdSink::new(io::writer(rt)),
+        &mut StdSink::new(TimedOutput::new(rt.stdout())),
     )
 }

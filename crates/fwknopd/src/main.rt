@@ -6,11 +6,11 @@
 use fk_base::{NoMemory, Status, Words};
 use fk_program::argument_words;
 use fk_serve::fwknopd_run;
-use fk_system::{DirFiles, StdSink, StdSource, SysHost, UdpFeed};
-use std::io;
+use fk_system::{DirFiles, StdSink, StdSource, SysHost, TimedOutput, UdpFeed, take_closed_streams};
 use std::process::ExitCode;
 
 fn main(rt: HostRuntime) -> ExitCode {
+    take_closed_streams(&rt);
     ExitCode::from(run(&rt).exit_code())
 }
 
@@ -37,8 +37,8 @@ fn run_on(rt: &HostRuntime, words: &Words) -> Status {
         words,
         &mut DirFiles::new(rt.alloc(), for_files),
         &mut UdpFeed::new(for_feed),
-        &mut SysHost::new(rt.alloc(), for_host),
+        &mut SysHost::new(rt.alloc(), for_host, rt.stderr()),
         &mut StdSource::new(rt.reader()),
-        &mut StdSink::new(io::writer(rt)),
+        &mut StdSink::new(TimedOutput::new(rt.stdout())),
     )
 }

@@ -4,7 +4,8 @@ use Rattle.fk_child.specs.View.{view_of}
 use Rattle.fk_program.specs.Faults.{Fault, Tells}
 use Rattle.fk_serve.specs.Running.{RefusesWords, RunsWords}
 use Rattle.fk_serve.specs.World.{world_by}
-use Rattle.fk_serve.proofs.Counting.{same-host, words-counts}
+use Rattle.fk_view.proofs.Viewed.{same-host}
+use Rattle.fk_serve.proofs.Counting.{words-counts}
 use Rattle.fk_serve.proofs.Complete.{run-ends-well}
 use Rattle.fk_serve.proofs.running.fwknopd_run.Goals as goal
 

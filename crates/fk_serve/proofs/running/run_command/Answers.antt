@@ -8,7 +8,8 @@ use Rattle.fk_serve.specs.Running.{PrintsOnly, Runs}
 use Rattle.fk_trial.specs.Streams.{source_by, streams_by}
 use Rattle.fk_program.specs.Files.{files_by}
 use Rattle.fk_serve.specs.World.{world_by}
-use Rattle.fk_serve.proofs.Counting.{printed-counts, same-host}
+use Rattle.fk_view.proofs.Viewed.{same-host}
+use Rattle.fk_serve.proofs.Counting.{printed-counts}
 use Rattle.fk_serve.specs.Private.{bench, names_of}
 use Rattle.fk_serve.proofs.Served.{asked-serve, limits-are}
 use Rattle.fk_serve.proofs.Tried.{asked-trial, tried-counts, tried_in}
