@@ -5,7 +5,7 @@ use Rattle.std.specs.List.{count_by, Contains}
 use Rattle.fk_base.specs.declared.address.Ip4.{Ip4}
 use Rattle.fk_trace.specs.declared.change.OpenRecord.{OpenRecord}
 use Rattle.fk_trace.specs.Trace.{Item, Child, running, close_attempted}
-use Rattle.fk_trace.specs.Ledger.{seen}
+use Rattle.fk_trace.specs.Ledger.{IsSeen}
 use Rattle.fk_trace.specs.Decision.{Input, Rules}
 use Rattle.fk_trace.specs.Decision.Input.{Quiet, Datagram}
 use Rattle.fk_trace.specs.Attempts.{IsPollOf}
@@ -51,7 +51,7 @@ pub record WantsAtDatagram (rules : Rules) (place : Place) (taken : TakenTurn) :
   pub datagram : List ℕ
   pub brought : taken.turn.input ≡ Datagram source datagram
   pub formed : rules.misshapen datagram ≡ None
-  pub fresh : Contains (seen place.ledger) (rules.digest datagram) → ⊥
+  pub fresh : IsSeen (rules.digest datagram) place.ledger → ⊥
 
 -- It may want memory in the host's start of a close: each child that ran before it was polled, all its changes are made, and a
 -- record that is due and idle at its end had no close attempted in it.

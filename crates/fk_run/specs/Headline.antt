@@ -1,5 +1,5 @@
 -- The headline over one run: an open is attempted only for a datagram of the same turn that the rules grant and for which there is
--- room, and at most once for each digest; a close only for a live record that is due and idle; a record is settled only where a
+-- room, and at most once for each digest and stamp; a close only for a live record that is due and idle; a record is settled only where a
 -- clean close of it has ended well in the same turn; and each turn that is not cut starts what is owed at it.
 use Rattle.std.specs.Prelude.{◌≡◌, ◌≢◌, ◌⊎◌, ℕ, ◌+◌, ◌<◌, ◌≤◌, false, IsTrue, List, [], ◌∷◌, ◌++◌, length, map, Option, Some, None}
 use Rattle.std.specs.List.{count_by, filter_map, flat_map, range_with_len, AllPairs, Contains}
@@ -7,9 +7,8 @@ use Rattle.fk_base.specs.declared.purpose.Purpose.{Purpose}
 use Rattle.fk_base.specs.declared.purpose.Purpose.TheVariants.{Open, Close}
 use Rattle.fk_trace.specs.declared.change.OpenRecord.{OpenRecord}
 use Rattle.fk_trace.specs.declared.change.Change.{Change}
-use Rattle.fk_trace.specs.declared.change.Change.TheVariants.{Open as OpenChange}
 use Rattle.fk_trace.specs.Trace.{Item, Attempt, attempt_of, is_turn, close_attempted}
-use Rattle.fk_trace.specs.Ledger.{opens, dones, live, seen, next_id, after, IsLedger}
+use Rattle.fk_trace.specs.Ledger.{key_of, opens, dones, live, next_id, after, state_of, Bars, IsLater, IsLedger}
 use Rattle.fk_trace.specs.Idle.{is_idle}
 use Rattle.fk_trace.specs.Decision.{Permit, IsGranted, answer}
 use Rattle.fk_trace.specs.Decision.Answer.{Opens}
@@ -41,14 +40,15 @@ pub record StandsInTurn (run : Run) (before : List Item) (item : Item) : Type 0 
   pub begun : turns_begun before ≡ length front + 1
 
 -- The open of this record is attempted with these words by this item behind these items of the run: its turn has brought the
--- datagram that was granted, over the ledger with the settlements of that turn, and its record is the turn's last change.
+-- datagram that was granted, over the ledger with the settlements of that turn, and the changes that make its record are the turn's last.
 pub record OpensByGrant (run : Run) (before : List Item) (item : Item) (id : ℕ) (words : List (List ℕ)) : Type 0 where
   pub at : StandsInTurn run before item
   pub place : Place
   pub reached : place ≡ after_turns (entry run.ledger) at.front
   pub granted : OpenRecord
-  pub made : at.taken.changes ≡ settlements place.past at.items ++ OpenChange granted ∷ []
-  pub by_grant : IsGranted run.rules (after place.ledger (settlements place.past at.items)) at.taken.turn granted words
+  pub making : List Change
+  pub made : at.taken.changes ≡ settlements place.past at.items ++ making
+  pub by_grant : IsGranted run.rules (after place.ledger (settlements place.past at.items)) at.taken.turn granted making words
   pub numbered : granted.id ≡ id
 
 -- the record whose open an attempt is
@@ -85,16 +85,16 @@ pub record ClosesWhenDue (run : Run) (before : List Item) (item : Item) (id : �
   pub numbered : closing.id ≡ id
   pub with_words : words ≡ closing.close
 
--- The records of a run are numbered on from the ledger that it found, the open of each is attempted at most once (of all but the
--- last exactly once, and of all in a run that is not cut short), and where no two records of that ledger have one digest, no two
--- have one with the run's among them.
+-- The records of a run are numbered on from the ledger that it found, and the open of each is attempted at most once (of all but the
+-- last exactly once, and of all in a run that is not cut short). No two of them have one key, and the ledger that was found barred none.
 pub record OpensOnce (run : Run) : Type 0 where
   pub unattempted : List ℕ
   pub attempted : opens_attempted (trace_of run) ++ unattempted ≡ map (λ item. item.id) (opens (changes_of run))
   pub last : length unattempted ≤ 1
   pub whole : cuts_turn run.ending ≡ false → unattempted ≡ []
   pub numbered : map (λ item. item.id) (opens (changes_of run)) ≡ range_with_len (next_id run.ledger) (length (opens (changes_of run)))
-  pub apart : AllPairs (λ a b. a ≢ b) (seen run.ledger) → AllPairs (λ a b. a ≢ b) (seen (after run.ledger (changes_of run)))
+  pub apart : AllPairs IsLater (map key_of (opens (changes_of run)))
+  pub fresh : (item : OpenRecord) → Contains (opens (changes_of run)) item → Bars (state_of run.ledger) (key_of item) → ⊥
 
 -- this turn of the run is not cut: the run's ending cuts none, or others follow the turn, or it is a whole one
 pub record IsWholeTurnOf (run : Run) (front : List TakenTurn) (taken : TakenTurn) : Type 0 where
@@ -111,8 +111,8 @@ AttemptedIn items purpose words = (item : Item) × Contains items item × IsAtte
 pub record StartsWhatIsOwed (run : Run) (front : List TakenTurn) (taken : TakenTurn) : Type 0 where
   pub place : Place
   pub reached : place ≡ after_turns (entry run.ledger) front
-  pub opened : (item : OpenRecord) (permit : Permit)
-      → answer run.rules (after place.ledger (settlements place.past taken.items)) taken.turn ≡ Opens item permit
+  pub opened : (item : OpenRecord) (permit : Permit) (making : List Change)
+      → answer run.rules (after place.ledger (settlements place.past taken.items)) taken.turn ≡ Opens item permit making
       → AttemptedIn taken.items (Open item.id) permit.opening
   pub closed : (item : OpenRecord) → Contains (live (after place.ledger taken.changes)) item → item.due ≤ taken.turn.moment
       → close_attempted (flat_map (λ earlier. earlier.items) front) item.id ≡ false

@@ -5,7 +5,7 @@ use Rattle.fk_base.specs.declared.purpose.Purpose.TheVariants.{Open, Close}
 use Rattle.fk_trace.specs.declared.change.OpenRecord.{OpenRecord}
 use Rattle.fk_trace.specs.declared.change.Change.{Change}
 use Rattle.fk_trace.specs.Trace.{Item}
-use Rattle.fk_trace.specs.Ledger.{opens, live, seen, key_of, after, state_of, IsLedger}
+use Rattle.fk_trace.specs.Ledger.{opens, live, key_of, after, state_of, Bars, IsLater, IsLedger}
 use Rattle.fk_trace.specs.Settled.{EndedCleanly}
 use Rattle.fk_trace.specs.Attempts.{IsAttempt}
 use Rattle.fk_run.specs.Turn.{TakenTurn}
@@ -85,12 +85,13 @@ abbrev pub AttemptsBelongTo : Visit → List OpenRecord → Type 0
 AttemptsBelongTo visit items =
     AllZip (λ id item. (item.id ≡ id) × Contains (opens (changes_left visit)) item) (opens_attempted (trace_left visit)) items
 
--- Over all runs, no two open attempts belong to records of one key, and none to a record of a key that was recorded before the first:
--- no key stands twice among those that the found ledger has seen and those of the records whose open was attempted.
+-- Over all runs, no two open attempts belong to records of one key, nor to two of one digest but the later under a later stamp; and none
+-- belongs to a record whose key the ledger that was found barred.
 pub record OpensOnceEver (found : List Change) (history : List Visit) : Type 0 where
   pub attempted : List (List OpenRecord)
   pub belong : AllZip AttemptsBelongTo history attempted
-  pub apart : AllPairs (λ a b. a ≢ b) (seen found ++ map key_of (flat_map (λ items. items) attempted))
+  pub apart : AllPairs IsLater (map key_of (flat_map (λ items. items) attempted))
+  pub fresh : (item : OpenRecord) → Contains (flat_map (λ items. items) attempted) item → Bars (state_of found) (key_of item) → ⊥
 
 -- the record was live when the run began, or the run made it and it was left
 abbrev pub IsOn : Visit → OpenRecord → Type 0

@@ -16,8 +16,8 @@ ghost use Rattle.fk_run.specs.History.{
 };
 
 /// Every history keeps the headline, whatever its datagrams, moments, ends of children and crashes: an open is attempted only for
-/// a datagram of the same turn that the rules of its run grant, and over all runs at most once for each key, failed attempts
-/// counted; each turn but one that is cut starts what is owed at it, and the close of each record at the first turn of its run at or
+/// a datagram of the same turn that the rules of its run grant, and over all runs at most once for each digest and stamp, failed
+/// attempts counted; each turn but one that is cut starts what is owed at it, and the close of each record at the first turn of its run at or
 /// past the record's due; and a record that was on the areas is live in each later run unless a clean close of it has ended well.
 /// What each run leaves is a ledger again.
 pub fn histories_keep_the_headline()

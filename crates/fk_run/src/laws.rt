@@ -25,7 +25,7 @@ ghost use Rattle.fk_run.specs.Headline.{
   StartsWhatIsOwed,
 };
 
-/// Every legal run keeps the headline: an open is attempted only for a granted datagram, and at most once for each digest; a
+/// Every legal run keeps the headline: an open is attempted only for a granted datagram, and at most once for each digest and stamp; a
 /// close only for a live record that is due and idle; only a clean close that ended well in the same turn settles a record; and each
 /// turn that is not cut short starts what is owed at it. In a run over a ledger a close is attempted at the first turn at or past
 /// its record's due.
@@ -64,8 +64,8 @@ pub fn legal_runs_tell_children_apart()
 
 /// What is granted is what a turn's answer opens, by the same permit, and the other way round.
 pub fn what_is_granted_is_opened()
-    ensures opened { (rules : Rules) (ledger : List Change) (turn : FeedTurn) (item : OpenRecord) (words : List (List ℕ))
-        → (granted : IsGranted rules ledger turn item words) → answer rules ledger turn ≡ Opens item granted.permit }
-    ensures granted { (rules : Rules) (ledger : List Change) (turn : FeedTurn) (item : OpenRecord) (permit : Permit)
-        → answer rules ledger turn ≡ Opens item permit → IsGranted rules ledger turn item permit.opening }
+    ensures opened { (rules : Rules) (ledger : List Change) (turn : FeedTurn) (item : OpenRecord) (changes : List Change) (words : List (List ℕ))
+        → (granted : IsGranted rules ledger turn item changes words) → answer rules ledger turn ≡ Opens item granted.permit changes }
+    ensures granted { (rules : Rules) (ledger : List Change) (turn : FeedTurn) (item : OpenRecord) (permit : Permit) (changes : List Change)
+        → answer rules ledger turn ≡ Opens item permit changes → IsGranted rules ledger turn item changes permit.opening }
 {}

@@ -44,7 +44,7 @@ IsOneAttempt purpose words (item ∷ other ∷ items) = ⊥
 abbrev pub AttemptsThatOpen : Answer → List Item → Type 0
 AttemptsThatOpen Nothing items = items ≡ []
 AttemptsThatOpen (Refuses why) items = items ≡ []
-AttemptsThatOpen (Opens item permit) items = IsOneAttempt (Open item.id) permit.opening items
+AttemptsThatOpen (Opens item permit changes) items = IsOneAttempt (Open item.id) permit.opening items
 
 -- a record stands before another by rising due and then number
 abbrev pub Precedes : OpenRecord → OpenRecord → Type 0

@@ -1,15 +1,14 @@
 -- What a turn's datagram is answered: nothing where there is none, a refusal, or a record whose open is started. What is
 -- granted is an argument, so that one definition serves every stage of the rules.
-use Rattle.std.specs.Prelude.{◌≡◌, ℕ, Bool, ◌+◌, IsTrue, List, [], ◌∷◌, Option, Some, None, if◌then◌else◌}
-use Rattle.std.specs.List.{Contains}
+use Rattle.std.specs.Prelude.{◌≡◌, ℕ, Bool, ◌+◌, ◌≤◌, ◌&&◌, nat_lt, List, [], ◌∷◌, length, Option, Some, None, if◌then◌else◌}
 use Rattle.fk_base.specs.declared.address.Ip4.{Ip4}
 use Rattle.fk_base.specs.declared.pair.Pair.{Pair}
 use Rattle.fk_trace.specs.declared.change.OpenRecord.{OpenRecord}
 use Rattle.fk_trace.specs.declared.change.Change.{Change}
 use Rattle.fk_trace.specs.declared.change.Change.TheVariants.{Open as OpenChange}
 use Rattle.fk_trace.specs.declared.refusal.LogWhy.{LogWhy}
-use Rattle.fk_trace.specs.declared.refusal.LogWhy.TheVariants.{Replay, Full}
-use Rattle.fk_trace.specs.Ledger.{seen, is_seen, next_id}
+use Rattle.fk_trace.specs.declared.refusal.LogWhy.TheVariants.{Replay, Stale, Full}
+use Rattle.fk_trace.specs.Ledger.{live, is_seen, IsSeen, floor_of, next_id}
 
 -- what a turn was taken for: nothing but the time, or a datagram with its source
 pub data Input : Type 0 where
@@ -21,10 +20,11 @@ pub record FeedTurn : Type 0 where
   pub moment : ℕ
   pub input : Input
 
--- what the rules grant: by which stanza, for how many seconds, to whom and for which port first, and with which words the
--- open and the close are started
+-- what the rules grant: by which stanza, under which stamp of the packet, for how many seconds, to whom and for which port first, and
+-- with which words the open and the close are started
 pub record Permit : Type 0 where
   pub stanza : ℕ
+  pub stamp : ℕ
   pub seconds : ℕ
   pub ip : Ip4
   pub pair : Pair
@@ -35,6 +35,13 @@ pub data Verdict : Type 0 where
   Granted : Permit → Verdict
   Refused : LogWhy → Verdict
 
+-- how much a run may record
+pub record Room : Type 0 where
+  -- how many records may be live
+  pub limit : ℕ
+  -- the journal of the ledger takes one more change, and for each record that is then live the Done that it is owed
+  pub fits : List Change → Change → Bool
+
 -- the rules of a run
 pub record Rules : Type 0 where
   -- the refusal of a datagram that isn't formed as one, whatever it says
@@ -43,14 +50,14 @@ pub record Rules : Type 0 where
   pub digest : List ℕ → List ℕ
   -- what is granted at a moment to a source for a datagram
   pub admit : ℕ → Ip4 → List ℕ → Verdict
-  -- a ledger has room for a record
-  pub has_room : List Change → OpenRecord → Bool
+  pub room : Room
 
 -- the record of a granted datagram
 abbrev pub record_of : Rules → List Change → ℕ → List ℕ → Permit → OpenRecord
 record_of rules ledger moment datagram permit = record {
   id = next_id ledger;
   digest = record { 0 = rules.digest datagram };
+  stamp = permit.stamp;
   moment = moment;
   due = moment + permit.seconds;
   ip = permit.ip;
@@ -58,18 +65,32 @@ record_of rules ledger moment datagram permit = record {
   close = permit.closing;
 }
 
+-- whatever the room in the journal, a change has its place: for a record not too many are live, and its number is one of 63 bits
+abbrev pub has_place : Room → List Change → Change → Bool
+has_place room ledger (OpenChange item) = nat_lt (length (live ledger)) room.limit && nat_lt (next_id ledger) 9223372036854775808
+has_place room ledger _ = nat_lt (next_id ledger) 9223372036854775808
+
+-- what is made so that the ledger has this change, and nothing where there is no room
+abbrev pub making : Room → List Change → Change → Option (List Change)
+making room ledger change = if has_place room ledger change && room.fits ledger change then Some (change ∷ []) else None
+
 pub data Answer : Type 0 where
   -- there was no datagram
   Nothing : Answer
   Refuses : LogWhy → Answer
-  -- this record is made, and the open is started with these words by this stanza
-  Opens : OpenRecord → Permit → Answer
+  -- this record is made, by these changes, and the open is started as this permit says
+  Opens : OpenRecord → Permit → List Change → Answer
+
+abbrev pub answer_made : OpenRecord → Permit → Option (List Change) → Answer
+answer_made item permit None = Refuses Full
+answer_made item permit (Some changes) = Opens item permit changes
 
 abbrev pub answer_granted : Rules → List Change → ℕ → List ℕ → Permit → Answer
 answer_granted rules ledger moment datagram permit =
-    if rules.has_room ledger (record_of rules ledger moment datagram permit)
-    then Opens (record_of rules ledger moment datagram permit) permit
-    else Refuses Full
+    if nat_lt permit.stamp (floor_of ledger)
+    then Refuses Stale
+    else answer_made (record_of rules ledger moment datagram permit) permit
+      (making rules.room ledger (OpenChange (record_of rules ledger moment datagram permit)))
 
 abbrev pub answer_by : Rules → List Change → ℕ → List ℕ → Verdict → Answer
 answer_by rules ledger moment datagram (Granted permit) = answer_granted rules ledger moment datagram permit
@@ -88,26 +109,28 @@ answer_to rules ledger moment (Datagram source datagram) =
     answer_formed rules ledger moment source datagram (rules.misshapen datagram)
 
 -- what the turn is answered, over the ledger as it then stands: the shape is tested first, then a replay, then what the
--- rules admit, and last the room
+-- rules admit, then the floor, and last the room
 abbrev pub answer : Rules → List Change → FeedTurn → Answer
 answer rules ledger turn = answer_to rules ledger turn.moment turn.input
 
--- the change that an answer makes
+-- the changes that an answer makes
 abbrev pub recorded_by : Answer → List Change
 recorded_by Nothing = []
 recorded_by (Refuses why) = []
-recorded_by (Opens item permit) = OpenChange item ∷ []
+recorded_by (Opens item permit changes) = changes
 
--- the turn has a datagram of the right shape that the rules grant, whose digest the ledger has not seen and for whose record it has
--- room; this is the record, and these are the words of its open
-pub record IsGranted (rules : Rules) (ledger : List Change) (turn : FeedTurn) (item : OpenRecord) (words : List (List ℕ)) : Type 0 where
+-- The turn has a datagram of the right shape that the rules grant, whose digest the ledger has not seen, whose stamp isn't below the floor,
+-- and for whose record there is room; this is the record, these changes make it, and these are the words of its open.
+pub record IsGranted (rules : Rules) (ledger : List Change) (turn : FeedTurn) (item : OpenRecord) (changes : List Change) (words : List (List ℕ))
+    : Type 0 where
   pub source : Ip4
   pub datagram : List ℕ
   pub permit : Permit
   pub brought : turn.input ≡ Datagram source datagram
   pub formed : rules.misshapen datagram ≡ None
-  pub fresh : Contains (seen ledger) (rules.digest datagram) → ⊥
+  pub fresh : IsSeen (rules.digest datagram) ledger → ⊥
   pub granted : rules.admit turn.moment source datagram ≡ Granted permit
+  pub current : floor_of ledger ≤ permit.stamp
   pub recorded : item ≡ record_of rules ledger turn.moment datagram permit
-  pub room : IsTrue (rules.has_room ledger item)
+  pub room : making rules.room ledger (OpenChange item) ≡ Some changes
   pub opening : words ≡ permit.opening

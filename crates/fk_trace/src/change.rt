@@ -7,6 +7,8 @@ pub struct OpenRecord {
     pub id: u64,
     /// The digest of the datagram that was granted.
     pub digest: Digest,
+    /// The seconds at which the packet says that it was made.
+    pub stamp: u64,
     /// When it was granted.
     pub moment: Moment,
     /// The second at which its close is due.
@@ -26,4 +28,20 @@ pub enum Change {
     Open(OpenRecord),
     /// The record of this number is closed for good.
     Done(u64),
+    /// Of a record that was closed for good, what refuses its datagram.
+    Settled {
+        /// The record's number.
+        id: u64,
+        /// The stamp of its packet.
+        stamp: u64,
+        /// The digest of its datagram.
+        digest: Digest,
+    },
+    /// A journal begins anew here, without what is below this floor. It stands first, or not at all.
+    Floor {
+        /// Packets with a stamp below it are refused, since their digests may be gone.
+        floor: u64,
+        /// The number of the next record.
+        next: u64,
+    },
 }

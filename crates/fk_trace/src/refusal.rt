@@ -27,6 +27,8 @@ pub enum LogWhy {
     Source,
     /// It asks for a port that is not permitted.
     Port,
+    /// Its stamp is below the floor.
+    Stale,
     /// There is no room for its record.
     Full,
 }
