@@ -90,7 +90,7 @@ answer_granted rules ledger moment datagram permit =
     if nat_lt permit.stamp (floor_of ledger)
     then Refuses Stale
     else answer_made (record_of rules ledger moment datagram permit) permit
-      (making rules.room ledger (OpenChange (record_of rules ledger moment datagram permit)))
+    (making rules.room ledger (OpenChange (record_of rules ledger moment datagram permit)))
 
 abbrev pub answer_by : Rules → List Change → ℕ → List ℕ → Verdict → Answer
 answer_by rules ledger moment datagram (Granted permit) = answer_granted rules ledger moment datagram permit
