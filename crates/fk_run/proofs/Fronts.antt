@@ -7,12 +7,12 @@ use Rattle.fk_base.specs.declared.purpose.Purpose.{Purpose}
 use Rattle.fk_trace.specs.declared.change.OpenRecord.{OpenRecord}
 use Rattle.fk_trace.specs.declared.change.Change.{Change}
 use Rattle.fk_trace.specs.Trace.{Item, past_after}
-use Rattle.fk_trace.specs.Ledger.{opens, dones}
+use Rattle.fk_trace.specs.Ledger.{opens, dones, after}
 use Rattle.fk_trace.specs.Decision.{Rules}
 use Rattle.fk_trace.specs.Settled.{settled_in}
 use Rattle.fk_trace.specs.Attempts.{IsAttempt, IsNoAttempt}
 use Rattle.fk_trace.proofs.Splits.{cases_joined, none_before, Contains-recursion}
-use Rattle.fk_trace.proofs.Ledgers.{opens-append, dones-append}
+use Rattle.fk_trace.proofs.Ledgers.{opens-append, dones-append, after-append}
 use Rattle.fk_trace.proofs.Settled.{past_after-append, settled_in-append}
 use Rattle.fk_run.specs.Place.{Place}
 use Rattle.fk_run.specs.Turn.{TakenTurn, WholeTurn, CutTurn, after_turn, after_turns}
@@ -20,7 +20,8 @@ use Rattle.fk_run.specs.Run.{Ending, cuts_turn}
 use Rattle.fk_run.specs.Legal.{LegalTurns}
 use Rattle.fk_run.specs.Headline.{turns_begun, opens_attempted}
 use Rattle.fk_run.proofs.Items.{no_attempt, turns_begun-append, opens_attempted-append}
-use Rattle.fk_run.proofs.Turns.{turns_begun-whole, settled_in-whole, opens_attempted-whole}
+use Rattle.fk_trace.proofs.Made.{AreMade, Whatever, made-joined, made-front}
+use Rattle.fk_run.proofs.Turns.{whole-made, turns_begun-whole, settled_in-whole, opens_attempted-whole}
 
 abbrev pub items_of : List TakenTurn → List Item
 items_of turns = flat_map (λ taken. taken.items) turns
@@ -39,9 +40,9 @@ pub past-after_turns : (place : Place) (front : List TakenTurn) → (after_turns
 past-after_turns place [] = refl
 past-after_turns place (first ∷ front) = past-after_turns (after_turn place first) front ∙ sym (past_after-append place.past first.items (items_of front))
 
-pub ledger-after_turns : (place : Place) (front : List TakenTurn) → (after_turns place front).ledger ≡ place.ledger ++ made_by front
-ledger-after_turns place [] = sym (append-nil place.ledger)
-ledger-after_turns place (first ∷ front) = ledger-after_turns (after_turn place first) front ∙ append_assoc place.ledger first.changes (made_by front)
+pub ledger-after_turns : (place : Place) (front : List TakenTurn) → (after_turns place front).ledger ≡ after place.ledger (made_by front)
+ledger-after_turns place [] = refl
+ledger-after_turns place (first ∷ front) = ledger-after_turns (after_turn place first) front ∙ sym (after-append place.ledger first.changes (made_by front))
 
 -- whole turns, one after another
 abbrev pub AreWhole : Rules → Place → List TakenTurn → Type 0
@@ -87,6 +88,22 @@ attempted-front rules place [] whole = refl
 attempted-front rules place (first ∷ front) whole =
     opens_attempted-append first.items (items_of front) ∙ ap (λ xs. xs ++ opens_attempted (items_of front)) (opens_attempted-whole whole.0)
     ∙ ap (λ xs. ids_of first.changes ++ xs) (attempted-front rules (after_turn place first) front whole.1) ∙ sym (ids-append first.changes (made_by front))
+
+-- what they made may be made over the ledger at their place
+pub made-front_turns : (rules : Rules) (place : Place) (front : List TakenTurn) → AreWhole rules place front → AreMade Whatever place.ledger (made_by front)
+made-front_turns rules place [] whole = tt
+made-front_turns rules place (first ∷ front) whole =
+    made-joined Whatever place.ledger first.changes (made_by front) (whole-made whole.0) (made-front_turns rules (after_turn place first) front whole.1)
+
+-- and so may all that legal turns make
+pub made-turns : (rules : Rules) (ending : Ending) (place : Place) (turns : List TakenTurn) → LegalTurns rules place ending turns → AreMade Whatever place.ledger (made_by turns)
+made-turns rules ending place [] legal = tt
+made-turns rules ending place (taken ∷ later) (inl w) =
+    made-joined Whatever place.ledger taken.changes (made_by later) (whole-made w.0) (made-turns rules ending (after_turn place taken) later w.1)
+made-turns rules ending place (taken ∷ later) (inr cut) =
+    let front : AreMade Whatever place.ledger taken.changes = made-front Whatever place.ledger taken.changes cut.2.unmade (whole-made cut.2.whole) in
+    subst (λ (turns : List TakenTurn). AreMade Whatever place.ledger (taken.changes ++ made_by turns)) (sym cut.1)
+    (subst (λ (changes : List Change). AreMade Whatever place.ledger changes) (sym (append-nil taken.changes)) front)
 
 -- the turn in which an item of the trace stands
 pub record InTurn (turns : List TakenTurn) (before : List Item) (item : Item) : Type 0 where

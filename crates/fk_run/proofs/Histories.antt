@@ -1,28 +1,28 @@
 -- What holds of every history: each run keeps the headline, no key is attempted twice, what is on the areas stays owed, and what each
 -- run leaves is a ledger.
-use Rattle.std.proofs.Common.{◌≡◌, ◌≢◌, ◌⊎◌, ℕ, zero, suc, ◌+◌, ◌≤◌, List, [], ◌∷◌, ◌++◌, length, map, refl, sym, ap, ◌∙◌, subst, arith, inl, inr, append_assoc}
+use Rattle.std.proofs.Common.{◌≡◌, ◌⊎◌, ℕ, zero, suc, ◌+◌, ◌≤◌, List, [], ◌∷◌, ◌++◌, length, map, refl, sym, ap, ◌∙◌, subst, arith, inl, inr, append_assoc}
 use Rattle.std.specs.List.{AllZip, AllPairs, AllByRecursion, Contains, flat_map, range_with_len}
 use Rattle.std.proofs.lemmas.List.{map-append}
 use Rattle.std.proofs.lemmas.List.Elements.{Contains-append_left, Contains-append_right, Contains-append_cases}
 use Rattle.fk_trace.specs.declared.change.OpenRecord.{OpenRecord}
 use Rattle.fk_trace.specs.declared.change.Change.{Change}
 use Rattle.fk_trace.specs.Trace.{Item}
-use Rattle.fk_trace.specs.Ledger.{Key, key_of, State, opens, dones, live, seen, next_id, after, state_of, IsLedger}
+use Rattle.fk_trace.specs.Ledger.{Key, key_of, State, opens, dones, live, next_id, after, state_of, Bars, IsLater, IsLedger}
 use Rattle.fk_trace.specs.Settled.{EndedCleanly}
-use Rattle.fk_trace.proofs.Lists.{Contains-head, Contains-tail, Contains-cases, Contains-map}
+use Rattle.fk_trace.proofs.Lists.{Contains-head, Contains-tail, Contains-cases, Contains-map, Contains-unmap}
 use Rattle.fk_trace.proofs.Splits.{Contains-recursion, recursion-behind, recursion-joined, AllPairs-front}
 use Rattle.fk_trace.proofs.Ledgers.{opens-append, dones-append}
+use Rattle.fk_trace.proofs.Made.{AreMade, Whatever, made-after, made-apart, made-fresh, made-barred, made-bars}
 use Rattle.fk_run.specs.Run.{trace_of, changes_of}
 use Rattle.fk_run.specs.Headline.{OpensOnce, opens_attempted}
 use Rattle.fk_run.specs.Left.{items_behind, crashed}
 use Rattle.fk_run.specs.History.{Visit, IsVisit, IsHistory, FollowOn, left_in_the_end, trace_left, changes_left, ledger_left, OpensByGrantOnly, StartsAllThatIsOwed, ClosesAtFirstDue, AttemptsBelongTo, OpensOnceEver, IsOn, EndedIn, StaysOwed}
 use Rattle.fk_run.proofs.Cutting.{split-at}
-use Rattle.fk_run.proofs.Ledgers.{settled-below, seen-apart, live-unless_settled, live-recorded}
+use Rattle.fk_run.proofs.Ledgers.{settled-below, live-unless_settled, live-recorded}
 use Rattle.fk_run.proofs.Leaves.{leaves-ledger}
 use Rattle.fk_run.proofs.Owed.{starts-owed, starts-first_due}
-use Rattle.fk_run.proofs.Runs.{opens-run, once-run}
-use Rattle.fk_run.proofs.Pairs.{pairs-behind, pair-across, pairs-joined}
-use Rattle.fk_run.proofs.Stays.{Stay, IsStay, StaysFollow, all_attempted, stays-fresh, stays-distinct}
+use Rattle.fk_run.proofs.Runs.{opens-run, once-run, made-run}
+use Rattle.fk_run.proofs.Stays.{Stay, IsStay, StaysFollow, all_attempted, stays-fresh, stays-apart}
 
 -- where a list is mapped to two parts, it has two parts itself
 split-map : {X Y : Type 0} (f : X → Y) (xs : List X) (front back : List Y) → map f xs ≡ front ++ back → (items : List X) × (others : List X) × (xs ≡ items ++ others) × (map f items ≡ front)
@@ -42,10 +42,6 @@ in-range a (suc n) x m =
       | inl same ↦ omega (arith, same)
       | inr more ↦ let up = in-range (a + 1) n x more in omega arith
     ]
-
--- the keys of a joined list of changes
-seen-append : (a b : List Change) → seen (a ++ b) ≡ seen a ++ seen b
-seen-append a b = ap (map key_of) (opens-append a b) ∙ map-append key_of (opens a) (opens b)
 
 -- each record belongs to its own number
 belong-each : (changes : List Change) (items : List OpenRecord) → ((item : OpenRecord) → Contains items item → Contains (opens changes) item)
@@ -98,30 +94,40 @@ module _ (visit : Visit) (is : IsVisit visit) where
       (belong-each (changes_left visit) attempted.items
       (λ item m. subst (λ (items : List OpenRecord). Contains items item) (sym attempted.parts) (Contains-append_left attempted.items attempted.others item m)))
 
-  -- all keys of the ledger that was left, in three parts
-  keys-left : seen (ledger_left visit) ≡ seen visit.run.ledger ++ (map key_of attempted.items ++ map key_of attempted.others)
-  keys-left =
-      seen-append visit.run.ledger (changes_left visit)
-      ∙ ap (λ (items : List OpenRecord). seen visit.run.ledger ++ map key_of items) attempted.parts
-      ∙ ap (λ (keys : List Key). seen visit.run.ledger ++ keys) (map-append key_of attempted.items attempted.others)
+  -- what was left may be made over what was found
+  made-left : AreMade Whatever visit.run.ledger (changes_left visit)
+  made-left = subst (λ (changes : List Change). AreMade Whatever visit.run.ledger changes) is.left.changes (made-run (crashed visit.run is.left.turns) is.left.legal)
+
+  -- the keys of all records that were left, in two parts
+  keys-left : map key_of (opens (changes_left visit)) ≡ map key_of attempted.items ++ map key_of attempted.others
+  keys-left = ap (map key_of) attempted.parts ∙ map-append key_of attempted.items attempted.others
+
+  -- a record of a key that was attempted is among them
+  record-left : (key : Key) → Contains (map key_of attempted.items) key → (item : OpenRecord) × Contains (opens (changes_left visit)) item × (key_of item ≡ key)
+  record-left key m =
+      let at = Contains-unmap key_of attempted.items key m in
+      (at.0, subst (λ (items : List OpenRecord). Contains items at.0) (sym attempted.parts) (Contains-append_left attempted.items attempted.others at.0 at.1), at.2)
 
   abbrev stay : Stay
   stay = record { found = state_of visit.run.ledger; left = state_of (ledger_left visit); attempted = map key_of attempted.items }
 
   is-stay : IsStay stay
   is-stay =
-      let found : List Key = seen visit.run.ledger in
       let mine : List Key = map key_of attempted.items in
       let others : List Key = map key_of attempted.others in
-      let apart : AllPairs (λ a b. a ≢ b) (found ++ (mine ++ others)) =
-      subst (λ (keys : List Key). AllPairs (λ a b. a ≢ b) keys) keys-left (seen-apart (ledger_left visit) leaves-left) in
-      let there : (key : Key) → Contains (found ++ (mine ++ others)) key → Contains (seen (ledger_left visit)) key = λ key m. subst (λ (keys : List Key). Contains keys key) (sym keys-left) m in
       record {
-        distinct = AllPairs-front (λ a b. a ≢ b) mine others (pairs-behind (λ a b. a ≢ b) found (mine ++ others) apart);
-        fresh = λ key m barred. pair-across (λ a b. a ≢ b) found (mine ++ others) key key apart barred (Contains-append_left mine others key m) refl;
-        barred = λ key m. there key (Contains-append_right found (mine ++ others) key (Contains-append_left mine others key m));
-        kept = λ key m. there key (Contains-append_left found (mine ++ others) key m);
+        apart = AllPairs-front IsLater mine others (subst (λ (keys : List Key). AllPairs IsLater keys) keys-left (made-apart Whatever visit.run.ledger (changes_left visit) made-left));
+        fresh = λ key m barred.
+            let at = record-left key m in
+            made-fresh Whatever visit.run.ledger (changes_left visit) made-left at.0 at.1 (subst (λ (other : Key). Bars (state_of visit.run.ledger) other) (sym at.2) barred);
+        barred = λ key m.
+            let at = record-left key m in
+            subst (λ (other : Key). Bars (state_of (ledger_left visit)) other) at.2 (made-barred Whatever visit.run.ledger (changes_left visit) made-left at.0 at.1);
+        kept = λ key barred. made-bars Whatever visit.run.ledger (changes_left visit) made-left key barred;
       }
+
+  left-behind : ledger_left visit ≡ visit.run.ledger ++ changes_left visit
+  left-behind = made-after Whatever visit.run.ledger (changes_left visit) made-left
 
   -- a record of the ledger that was left is live there, unless the run settled it
   lives-left : (item : OpenRecord) → Contains (opens (ledger_left visit)) item → (Contains (dones visit.run.ledger) item.id → ⊥)
@@ -129,14 +135,14 @@ module _ (visit : Visit) (is : IsVisit visit) where
   lives-left item m unsettled =
       elim (live-unless_settled (ledger_left visit) item m) [
         | inl lives ↦ inl lives
-        | inr settled ↦ elim (Contains-append_cases (dones visit.run.ledger) (dones (changes_left visit)) item.id (subst (λ (ids : List ℕ). Contains ids item.id) (dones-append visit.run.ledger (changes_left visit)) settled)) [
+        | inr settled ↦ elim (Contains-append_cases (dones visit.run.ledger) (dones (changes_left visit)) item.id (subst (λ (ids : List ℕ). Contains ids item.id) (ap dones left-behind ∙ dones-append visit.run.ledger (changes_left visit)) settled)) [
           | inl before ↦ absurd (unsettled before)
           | inr here ↦ inr (is.left.settled item.id here)
         ]
       ]
 
-  opens-all : opens (ledger_left visit) ≡ opens visit.run.ledger ++ opens (changes_left visit)
-  opens-all = opens-append visit.run.ledger (changes_left visit)
+  pub opens-all : opens (ledger_left visit) ≡ opens visit.run.ledger ++ opens (changes_left visit)
+  opens-all = ap opens left-behind ∙ opens-append visit.run.ledger (changes_left visit)
 
   pub stays-live : (item : OpenRecord) → Contains (live visit.run.ledger) item → Contains (live (ledger_left visit)) item ⊎ EndedCleanly [] (trace_left visit) item.id
   stays-live item m =
@@ -190,13 +196,13 @@ once-history found history is =
     let stays : List Stay = stays_of history is.visits in
     let all : AllByRecursion IsStay stays = are-stays history is.visits in
     let follow : StaysFollow (state_of found) stays = stays-follow found history is.visits is.follow in
-    let apart : AllPairs (λ a b. a ≢ b) (seen found ++ all_attempted stays) =
-    pairs-joined (λ a b. a ≢ b) (seen found) (all_attempted stays) (seen-apart found is.begins) (stays-distinct (state_of found) stays all follow)
-    (λ a b m n same. stays-fresh (state_of found) stays all follow b n (subst (λ (key : Key). Contains (seen found) key) same m)) in
     record {
       attempted = attempts_of history is.visits;
       belong = belong-all history is.visits;
-      apart = subst (λ (keys : List Key). AllPairs (λ a b. a ≢ b) (seen found ++ keys)) (sym (keys-all history is.visits)) apart;
+      apart = subst (λ (keys : List Key). AllPairs IsLater keys) (sym (keys-all history is.visits)) (stays-apart (state_of found) stays all follow);
+      fresh = λ item m.
+          stays-fresh (state_of found) stays all follow (key_of item)
+          (subst (λ (keys : List Key). Contains keys (key_of item)) (keys-all history is.visits) (Contains-map key_of (flat_map (λ items. items) (attempts_of history is.visits)) item m));
     }
 
 -- what was live stays so in each later run, unless a clean close of it ended well

@@ -1,5 +1,5 @@
 -- Worked histories, written by hand from the rules: two runs with a crash between them. And what is no history.
-use Rattle.std.proofs.Common.{◌≡◌, ◌≢◌, ℕ, ◌<◌, ◌≤◌, nat_lt, Bool, true, ◌&&◌, List, [], ◌∷◌, ◌++◌, length, map, refl, sym, ap, ◌∙◌, subst, arith, inl, inr, length-append}
+use Rattle.std.proofs.Common.{◌≡◌, ℕ, ◌<◌, ◌≤◌, nat_lt, Bool, true, ◌&&◌, List, [], ◌∷◌, ◌++◌, length, map, refl, sym, ap, ◌∙◌, subst, arith, inl, inr, length-append}
 use Rattle.std.specs.Prelude.{codes}
 use Rattle.std.specs.List.{flat_map, AllZip, AllPairs, AllByRecursion, Contains}
 use Rattle.std.proofs.lemmas.Bool.{and_parts}
@@ -14,12 +14,11 @@ use Rattle.fk_trace.specs.declared.change.Change.{Change}
 use Rattle.fk_trace.specs.declared.change.Change.TheVariants.{Open as OpenChange, Done}
 use Rattle.fk_trace.specs.Trace.{Item, Child}
 use Rattle.fk_trace.specs.Trace.Event.{Turn, Began, Ended}
-use Rattle.fk_trace.specs.Ledger.{Key, key_of, State, opens, dones, live, seen, next_id}
+use Rattle.fk_trace.specs.Ledger.{Key, key_of, State, opens, dones, live, next_id, IsLater}
 use Rattle.fk_trace.specs.Decision.Input.{Quiet}
 use Rattle.fk_trace.specs.Settled.{EndedCleanly}
-use Rattle.fk_trace.proofs.Lists.{Contains-head, Contains-tail, Contains-cases, Contains-map, All-by}
+use Rattle.fk_trace.proofs.Lists.{Contains-head, Contains-tail, Contains-cases, Contains-map, Contains-unmap, All-by}
 use Rattle.fk_trace.proofs.Splits.{none_before, second_at_zip}
-use Rattle.fk_trace.proofs.Ledgers.{opens-append}
 use Rattle.fk_run.specs.Place.{entry}
 use Rattle.fk_run.specs.Turn.{TakenTurn, WholeTurn, CutTurn}
 use Rattle.fk_run.specs.Run.{Run, Ending, trace_of}
@@ -27,8 +26,8 @@ use Rattle.fk_run.specs.Run.Ending.{AtEnd, AtDiskFault}
 use Rattle.fk_run.specs.Legal.{LegalTurns}
 use Rattle.fk_run.specs.Headline.{opens_attempted}
 use Rattle.fk_run.specs.History.{Visit, IsVisit, IsHistory, trace_left, changes_left, ledger_left, AttemptsBelongTo, OpensOnceEver}
-use Rattle.fk_run.proofs.Ledgers.{opens-one, recorded-below}
-use Rattle.fk_run.proofs.Histories.{once-history, visit-in, leaves-left}
+use Rattle.fk_run.proofs.Ledgers.{opens-one, open-below}
+use Rattle.fk_run.proofs.Histories.{once-history, visit-in, leaves-left, opens-all}
 use Rattle.fk_run.proofs.Pairs.{pair-across, pairs-behind}
 use Rattle.fk_run.proofs.RowParts.{only, polls-none, polls-one, closes-one, none-live, not-due}
 use Rattle.fk_run.proofs.WorkedRows.{open_words, rules, record_at, first, found, item_at, asks, quiet-turn, asked-turn, reached, closes, open_child, close_child}
@@ -154,7 +153,7 @@ is-closed : IsVisit closed
 is-closed =
     let numbered = rising-all (λ (c : Child). c.number) (close_child 1 ∷ []) refl in
     record {
-      ledger = ((refl, λ m. absurd (omega (arith, m.1))), tt);
+      ledger = ((record { above = λ k d l. absurd (omega (arith, l)); next = inr refl }, λ m. absurd (omega (arith, m.1))), tt);
       legal = record { turns = closing-turns AtEnd; no_fault_before = (refl, (refl, (refl, (refl, tt)))); numbered = numbered };
       rising = rising-all (λ (i : Item). i.moments) (trace_of closing_run) refl;
       left = record {
@@ -246,11 +245,11 @@ no_attempt_without_its_record : (start : List Change) (earlier next : Visit) (la
 no_attempt_without_its_record start earlier next later is id m lacks =
     let visit : IsVisit earlier = is.visits.0 in
     let left : Contains (map (λ item. item.id) (opens (changes_left earlier))) id = visit.left.opened id m in
-    let all : map (λ item. item.id) (opens (ledger_left earlier)) ≡ map (λ item. item.id) (opens earlier.run.ledger) ++ map (λ item. item.id) (opens (changes_left earlier)) =
-    ap (map (λ (item : OpenRecord). item.id)) (opens-append earlier.run.ledger (changes_left earlier)) ∙ map-append (λ (item : OpenRecord). item.id) (opens earlier.run.ledger) (opens (changes_left earlier)) in
-    let there : Contains (map (λ item. item.id) (opens (ledger_left earlier))) id =
-    subst (λ (ids : List ℕ). Contains ids id) (sym all) (Contains-append_right (map (λ (item : OpenRecord). item.id) (opens earlier.run.ledger)) (map (λ (item : OpenRecord). item.id) (opens (changes_left earlier))) id left) in
-    let below = recorded-below (ledger_left earlier) (leaves-left earlier visit) id there in
+    let made = Contains-unmap (λ (item : OpenRecord). item.id) (opens (changes_left earlier)) id left in
+    let there : Contains (opens (ledger_left earlier)) made.0 =
+    subst (λ (items : List OpenRecord). Contains items made.0) (sym (opens-all earlier visit)) (Contains-append_right (opens earlier.run.ledger) (opens (changes_left earlier)) made.0 made.1) in
+    let below = open-below (ledger_left earlier) made.0 there in
+    let number = made.2 in
     let same : next_id next.run.ledger ≡ next_id (ledger_left earlier) = ap (λ (state : State). state.next) is.follow.1.0 in
     absurd (omega arith)
 
@@ -292,7 +291,7 @@ attempted-key : (visit : Visit) (items : List OpenRecord) (item : OpenRecord) �
 attempted-key visit items item is belong at =
     let found = second_at_zip (λ (id : ℕ) (x : OpenRecord). (x.id ≡ id) × Contains (opens (changes_left visit)) x) (opens_attempted (trace_left visit)) items item.id belong at.attempted in
     let all : (x : OpenRecord) → Contains (opens (changes_left visit)) x → Contains (opens (ledger_left visit)) x =
-    λ x m. subst (λ (xs : List OpenRecord). Contains xs x) (sym (opens-append visit.run.ledger (changes_left visit))) (Contains-append_right (opens visit.run.ledger) (opens (changes_left visit)) x m) in
+    λ x m. subst (λ (xs : List OpenRecord). Contains xs x) (sym (opens-all visit is)) (Contains-append_right (opens visit.run.ledger) (opens (changes_left visit)) x m) in
     let same : found.0 ≡ item = opens-one (ledger_left visit) (leaves-left visit is) found.0 item (all found.0 found.2.1) (all item at.recorded) found.2.0 in
     subst (λ (x : OpenRecord). Contains (map key_of items) (key_of x)) same (Contains-map key_of items found.0 found.1)
 
@@ -304,8 +303,8 @@ keys-parts before items behind =
     ∙ ap (λ (keys : List Key). map key_of (flat_map (λ (xs : List OpenRecord). xs) before) ++ keys) (map-append key_of items (flat_map (λ (xs : List OpenRecord). xs) behind))
 
 no_key_is_attempted_twice : (start : List Change) (front : List Visit) (one : Visit) (between : List Visit) (other : Visit) (later : List Visit) → IsHistory start (front ++ one ∷ (between ++ other ∷ later))
-    → (a b : OpenRecord) → IsAttemptedIn one a → IsAttemptedIn other b → key_of a ≡ key_of b → ⊥
-no_key_is_attempted_twice start front one between other later is a b at_one at_other same =
+    → (a b : OpenRecord) → IsAttemptedIn one a → IsAttemptedIn other b → a.digest.0 ≡ b.digest.0 → b.stamp ≤ a.stamp → ⊥
+no_key_is_attempted_twice start front one between other later is a b at_one at_other same earlier =
     let history : List Visit = front ++ one ∷ (between ++ other ∷ later) in
     let once : OpensOnceEver start history = once-history start history is in
     let first_part = zip-parts AttemptsBelongTo front one (between ++ other ∷ later) once.attempted once.belong in
@@ -319,15 +318,17 @@ no_key_is_attempted_twice start front one between other later is a b at_one at_o
     let there : Contains behind (key_of b) =
     subst (λ (keys : List Key). Contains keys (key_of b)) (sym (ap (λ (xss : List (List OpenRecord)). map key_of (flat_map (λ (xs : List OpenRecord). xs) xss)) second_part.3 ∙ keys-parts second_part.0 second_part.1 second_part.2))
     (Contains-append_right (map key_of (flat_map (λ (xs : List OpenRecord). xs) second_part.0)) _ (key_of b) (Contains-append_left (map key_of second_part.1) _ (key_of b) others)) in
-    let all : AllPairs (λ x y. x ≢ y) (map key_of (flat_map (λ (xs : List OpenRecord). xs) first_part.0) ++ (map key_of first_part.1 ++ behind)) =
-    subst (λ (keys : List Key). AllPairs (λ x y. x ≢ y) keys) (ap (λ (xss : List (List OpenRecord)). map key_of (flat_map (λ (xs : List OpenRecord). xs) xss)) first_part.3 ∙ keys-parts first_part.0 first_part.1 first_part.2)
-    (pairs-behind (λ x y. x ≢ y) (seen start) (map key_of (flat_map (λ (xs : List OpenRecord). xs) once.attempted)) once.apart) in
-    pair-across (λ x y. x ≢ y) (map key_of first_part.1) behind (key_of a) (key_of b)
-    (pairs-behind (λ x y. x ≢ y) (map key_of (flat_map (λ (xs : List OpenRecord). xs) first_part.0)) (map key_of first_part.1 ++ behind) all) mine there same
+    let all : AllPairs IsLater (map key_of (flat_map (λ (xs : List OpenRecord). xs) first_part.0) ++ (map key_of first_part.1 ++ behind)) =
+    subst (λ (keys : List Key). AllPairs IsLater keys) (ap (λ (xss : List (List OpenRecord)). map key_of (flat_map (λ (xs : List OpenRecord). xs) xss)) first_part.3 ∙ keys-parts first_part.0 first_part.1 first_part.2)
+    once.apart in
+    let rises : a.stamp < b.stamp =
+    pair-across IsLater (map key_of first_part.1) behind (key_of a) (key_of b)
+    (pairs-behind IsLater (map key_of (flat_map (λ (xs : List OpenRecord). xs) first_part.0)) (map key_of first_part.1 ++ behind) all) mine there same in
+    absurd (omega arith)
 
--- as where the datagram of the first history is opened by a later run again
+-- as where the datagram of the first history is opened by a later run again, under the same stamp
 abbrev again : OpenRecord
-again = record_at 2 (codes "first") 1700000100 1700000130
+again = record (record_at 2 (codes "first") 1700000100 1700000130) { stamp = 1700000000 }
 
 abbrev opened_again : Visit
 opened_again = record {
@@ -346,4 +347,4 @@ opened_again = record {
 started_twice : (start : List Change) (front between later : List Visit) → IsHistory start (front ++ opened 1 ∷ (between ++ opened_again ∷ later)) → ⊥
 started_twice start front between later is =
     no_key_is_attempted_twice start front (opened 1) between opened_again later is first again
-    (record { recorded = Contains-head first []; attempted = Contains-head 1 [] }) (record { recorded = Contains-head again []; attempted = Contains-head 2 [] }) refl
+    (record { recorded = Contains-head first []; attempted = Contains-head 1 [] }) (record { recorded = Contains-head again []; attempted = Contains-head 2 [] }) refl (omega arith)

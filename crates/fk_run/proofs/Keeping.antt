@@ -11,7 +11,7 @@ use Rattle.fk_trace.specs.declared.change.Change.{Change}
 use Rattle.fk_trace.specs.declared.change.Change.TheVariants.{Open as OpenChange, Done}
 use Rattle.fk_trace.specs.Trace.{Event, Item, Child, children, running, still_running, begun_by, past_after}
 use Rattle.fk_trace.specs.Trace.Event.{Turn, Began, StartFailed, Ended, Runs, PollFailed}
-use Rattle.fk_trace.specs.Ledger.{live, seen, IsLedger}
+use Rattle.fk_trace.specs.Ledger.{live, after, IsSeen, IsLedger}
 use Rattle.fk_trace.specs.Idle.{child_numbered}
 use Rattle.fk_trace.specs.Decision.{Rules, FeedTurn, Answer, recorded_by, answer}
 use Rattle.fk_trace.specs.Decision.Answer.{Nothing, Refuses, Opens}
@@ -20,8 +20,8 @@ use Rattle.fk_trace.specs.Attempts.{IsPollOf, IsAttempt, AttemptsThatOpen, Prece
 use Rattle.fk_trace.proofs.Lists.{Contains-head, Contains-tail, Contains-filter, Contains-map, Contains-unmap, find-only, same_by_key}
 use Rattle.fk_trace.proofs.Running.{running-children}
 use Rattle.fk_trace.proofs.Settled.{settled-event}
-use Rattle.fk_trace.proofs.Grants.{granted-opens}
-use Rattle.fk_run.proofs.Ledgers.{Contains-kept, ledger-push, live-one, live-kept_done, live-kept_open}
+use Rattle.fk_trace.proofs.Grants.{granted-opens, making-made}
+use Rattle.fk_run.proofs.Ledgers.{Contains-kept, ledger-push, made-follow, live-one, live-kept_done, live-kept_open}
 
 abbrev ids_of : List OpenRecord → List ℕ
 ids_of items = map (λ item. item.id) items
@@ -141,21 +141,22 @@ keeps-polls past ledger (child ∷ order) (item ∷ polled) numbered keeps polls
     (append_assoc ledger first (settlements (item ∷ past) polled) ∙ ap (λ (changes : List Change). ledger ++ changes) (sym (map_cons (settled_at past item.event) (settled_in (item ∷ past) polled)))) rest
 
 -- what is granted is recorded
-pub keeps-recorded : (cs : List Child) (ledger : List Change) (rules : Rules) (turn : FeedTurn) (a : Answer) → answer rules ledger turn ≡ a → Keeps cs ledger → Keeps cs (ledger ++ recorded_by a)
-keeps-recorded cs ledger rules turn Nothing e keeps = subst (λ (all : List Change). Keeps cs all) (sym (append-nil ledger)) keeps
-keeps-recorded cs ledger rules turn (Refuses why) e keeps = subst (λ (all : List Change). Keeps cs all) (sym (append-nil ledger)) keeps
-keeps-recorded cs ledger rules turn (Opens item permit) e keeps =
-    let granted = granted-opens item permit rules ledger turn e in
-    let unseen : Contains (seen ledger) item.digest.0 → ⊥ =
-    subst (λ (digest : List ℕ). Contains (seen ledger) digest → ⊥) (sym (ap (λ (r : OpenRecord). r.digest.0) granted.recorded)) granted.fresh in
-    record {
-      is_ledger = ledger-push ledger (OpenChange item) keeps.is_ledger (ap (λ (r : OpenRecord). r.id) granted.recorded, unseen);
+pub keeps-recorded : (cs : List Child) (ledger : List Change) (rules : Rules) (turn : FeedTurn) (a : Answer) → answer rules ledger turn ≡ a → Keeps cs ledger → Keeps cs (after ledger (recorded_by a))
+keeps-recorded cs ledger rules turn Nothing e keeps = keeps
+keeps-recorded cs ledger rules turn (Refuses why) e keeps = keeps
+keeps-recorded cs ledger rules turn (Opens item permit making) e keeps =
+    let granted = granted-opens item permit making rules ledger turn e in
+    let unseen : IsSeen item.digest.0 ledger → ⊥ =
+    subst (λ (digest : List ℕ). IsSeen digest ledger → ⊥) (sym (ap (λ (r : OpenRecord). r.digest.0) granted.recorded)) granted.fresh in
+    subst (λ (changes : List Change). Keeps cs (after ledger changes)) (sym (making-made rules ledger item making granted.room))
+    (record {
+      is_ledger = ledger-push ledger (OpenChange item) keeps.is_ledger (made-follow ledger item (ap (λ (r : OpenRecord). r.id) granted.recorded) unseen);
       held = λ child id m p.
           let at = Contains-unmap (λ (r : OpenRecord). r.id) (live ledger) id (keeps.held child id m p) in
           subst (λ (n : ℕ). Contains (ids_of (live (ledger ++ OpenChange item ∷ []))) n) at.2
           (Contains-map (λ (r : OpenRecord). r.id) (live (ledger ++ OpenChange item ∷ [])) at.0 (live-kept_open ledger item at.0 at.1));
       one = keeps.one;
-    }
+    })
 
 -- a close may begin of a live record of which none runs
 keeps-attempt : (cs : List Child) (ledger : List Change) (purpose : Purpose) (words : List (List ℕ)) (event : Event) → IsAttempt purpose words event → Keeps cs ledger
@@ -190,10 +191,10 @@ keeps-attempt cs ledger purpose words (PollFailed number) h keeps lives none = a
 pub keeps-opened : (past : List Item) (ledger : List Change) (a : Answer) (opened : List Item) → AttemptsThatOpen a opened → Keeps (running past) ledger → Keeps (running (past_after past opened)) ledger
 keeps-opened past ledger Nothing opened h keeps = rw h keeps
 keeps-opened past ledger (Refuses why) opened h keeps = rw h keeps
-keeps-opened past ledger (Opens item permit) [] h keeps = absurd h
-keeps-opened past ledger (Opens item permit) (x ∷ []) h keeps =
+keeps-opened past ledger (Opens item permit making) [] h keeps = absurd h
+keeps-opened past ledger (Opens item permit making) (x ∷ []) h keeps =
     keeps-attempt (running past) ledger (Open item.id) permit.opening x.event h keeps (λ id e. absurd cc) (λ id child e m p. absurd cc)
-keeps-opened past ledger (Opens item permit) (x ∷ y ∷ opened) h keeps = absurd h
+keeps-opened past ledger (Opens item permit making) (x ∷ y ∷ opened) h keeps = absurd h
 
 -- what runs beside a child that has begun ran before it, or is that one
 attempt-runs : (purpose : Purpose) (words : List (List ℕ)) (event : Event) (cs : List Child) (child : Child) → IsAttempt purpose words event → Contains (still_running event cs ++ begun_by event) child

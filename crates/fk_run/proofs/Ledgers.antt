@@ -1,16 +1,15 @@
 -- What a list of changes is that is a ledger, and what one more change leaves of its live records.
-use Rattle.std.proofs.Common.{◌≡◌, ◌≢◌, ◌⊎◌, ℕ, ◌+◌, ◌<◌, Bool, true, false, not, cond, eqb, List, [], ◌∷◌, ◌++◌, length, map, refl, sym, ap, ◌∙◌, subst, arith, inl, inr, append_assoc, append-nil}
-use Rattle.std.specs.List.{filter, list_any, AllPairs, Contains}
-use Rattle.std.proofs.lemmas.List.{length_push}
-use Rattle.std.proofs.lemmas.List.Elements.{Contains-append_left, Contains-push_cases, Contains-get_or, filter-append, filter_passes, All-contains}
-use Rattle.std.proofs.lemmas.List.Quantifiers.{all_pairs_push}
+use Rattle.std.proofs.Common.{◌≡◌, ◌≢◌, ◌⊎◌, ℕ, ◌+◌, ◌<◌, max, Bool, true, false, not, cond, eqb, List, [], ◌∷◌, ◌++◌, map, refl, sym, ap, ◌∙◌, subst, arith, inl, inr, append_assoc, append-nil}
+use Rattle.std.specs.List.{filter, list_any, Contains}
+use Rattle.std.proofs.lemmas.List.Elements.{Contains-append_left, Contains-push_cases, filter-append, filter_passes, All-contains}
 use Rattle.std.proofs.lemmas.Bool.{ne_eqb, eqb-true, eq-eqb}
 use Rattle.fk_trace.specs.declared.change.OpenRecord.{OpenRecord}
 use Rattle.fk_trace.specs.declared.change.Change.{Change}
-use Rattle.fk_trace.specs.declared.change.Change.TheVariants.{Open, Done}
-use Rattle.fk_trace.specs.Ledger.{Key, key_of, opens, dones, live, seen, next_id, MayFollow, IsLedgerFrom, IsLedger}
-use Rattle.fk_trace.proofs.Lists.{Contains-head, Contains-tail, Contains-cases, Contains-filter, Contains-map, Contains-unmap, list_any-at, list_any-from}
-use Rattle.fk_trace.proofs.Ledgers.{opens-push_done, opens-push_open, dones-push_open, dones-push_done, live-push_done, seen-push_open, next_id-push_open}
+use Rattle.fk_trace.specs.declared.change.Change.TheVariants.{Open, Done, Settled, Floor}
+use Rattle.fk_trace.specs.Ledger.{opens, dones, is_open, live, numbers, next_from, next_id, after, IsSeen, MayFollow, IsLedgerFrom, IsLedger}
+use Rattle.fk_trace.proofs.Lists.{Contains-head, Contains-tail, Contains-cases, Contains-filter, Contains-map, Contains-unmap, All-by, list_any-at, list_any-from}
+use Rattle.fk_trace.proofs.Ledgers.{opens-append, dones-append, opens-push_done, opens-push_open, dones-push_open, dones-push_done, live-of, live-push_done, next_by-above, next_from-above, next_id-push}
+use Rattle.fk_trace.proofs.Made.{AreMade, IsLive, Whatever, made-after, made-front}
 
 -- what the test gives true for stays in a filter
 pub Contains-kept : {X : Type 0} (q : X → Bool) (xs : List X) (x : X) → q x ≡ true → Contains xs x → Contains (filter q xs) x
@@ -36,101 +35,140 @@ ledger-front before (change ∷ a) b h = (h.0, ledger-front (before ++ change �
 pub ledger-push : (ledger : List Change) (change : Change) → IsLedger ledger → MayFollow ledger change → IsLedger (ledger ++ change ∷ [])
 ledger-push ledger change is may = ledger-joined [] ledger (change ∷ []) is (may, tt)
 
--- records are told apart by their numbers, which are at most as many as they are
-record IsNumbered (items : List OpenRecord) : Type 0 where
-  below : (item : OpenRecord) → Contains items item → item.id < length items + 1
-  one : (a b : OpenRecord) → Contains items a → Contains items b → a.id ≡ b.id → a ≡ b
+-- the numbers that a ledger has are below the next
+number-below : (next : ℕ) (changes : List Change) (id : ℕ) → Contains (numbers changes) id → id < next_from next changes
+number-below next [] id m = absurd (omega (arith, m.1))
+number-below next (Open item ∷ changes) id m =
+    elim (Contains-cases item.id (numbers changes) id m) [
+      | inl e ↦ let up = next_from-above (max next (item.id + 1)) changes in grind arith
+      | inr n ↦ number-below (max next (item.id + 1)) changes id n
+    ]
+number-below next (Done other ∷ changes) id m = number-below next changes id m
+number-below next (Settled other stamp digest ∷ changes) id m =
+    elim (Contains-cases other (numbers changes) id m) [
+      | inl e ↦ let up = next_from-above (max next (other + 1)) changes in grind arith
+      | inr n ↦ number-below (max next (other + 1)) changes id n
+    ]
+number-below next (Floor floor first ∷ changes) id m = number-below (max next first) changes id m
 
-numbered-push : (ledger : List Change) (change : Change) → IsNumbered (opens ledger) → MayFollow ledger change → IsNumbered (opens (ledger ++ change ∷ []))
-numbered-push ledger (Open item) numbered may =
-    let more = length_push (opens ledger) item in
-    let bound : (x : OpenRecord) → Contains (opens ledger) x → x.id < item.id = λ x m. let low = numbered.below x m in let is = may.0 in omega arith in
-    let pushed : IsNumbered (opens ledger ++ item ∷ []) =
-    record {
-      below = λ x m. elim (Contains-push_cases (opens ledger) item x m) [
-        | inl k ↦ let low = numbered.below x k in omega arith
-        | inr e ↦ let is = may.0 in let same = ap (λ (y : OpenRecord). y.id) e in omega arith
-      ];
-      one = λ a b m n e. elim (Contains-push_cases (opens ledger) item a m) [
-        | inl k ↦ elim (Contains-push_cases (opens ledger) item b n) [
-          | inl l ↦ numbered.one a b k l e
-          | inr f ↦ absurd (let low = bound a k in let same = ap (λ (y : OpenRecord). y.id) f in omega arith)
-        ]
-        | inr f ↦ elim (Contains-push_cases (opens ledger) item b n) [
-          | inl l ↦ absurd (let low = bound b l in let same = ap (λ (y : OpenRecord). y.id) f in omega arith)
-          | inr g ↦ sym f ∙ g
-        ]
-      ];
-    } in
-    subst IsNumbered (sym (opens-push_open ledger item)) pushed
-numbered-push ledger (Done id) numbered may = subst IsNumbered (sym (opens-push_done ledger id)) numbered
+pub open-number : (changes : List Change) (item : OpenRecord) → Contains (opens changes) item → Contains (numbers changes) item.id
+open-number [] item m = absurd (omega (arith, m.1))
+open-number (Open other ∷ changes) item m =
+    elim (Contains-cases other (opens changes) item m) [
+      | inl e ↦ subst (λ (r : OpenRecord). Contains (other.id ∷ numbers changes) r.id) e (Contains-head other.id (numbers changes))
+      | inr n ↦ Contains-tail other.id (numbers changes) item.id (open-number changes item n)
+    ]
+open-number (Done id ∷ changes) item m = open-number changes item m
+open-number (Settled id stamp digest ∷ changes) item m = Contains-tail id (numbers changes) item.id (open-number changes item m)
+open-number (Floor floor next ∷ changes) item m = open-number changes item m
 
-numbered-from : (before changes : List Change) → IsNumbered (opens before) → IsLedgerFrom before changes → IsNumbered (opens (before ++ changes))
-numbered-from before [] numbered is = subst (λ (ledger : List Change). IsNumbered (opens ledger)) (sym (append-nil before)) numbered
-numbered-from before (change ∷ changes) numbered is =
-    subst (λ (ledger : List Change). IsNumbered (opens ledger)) (append_assoc before (change ∷ []) changes)
-    (numbered-from (before ++ change ∷ []) changes (numbered-push before change numbered is.0) is.1)
+pub open-below : (ledger : List Change) (item : OpenRecord) → Contains (opens ledger) item → item.id < next_id ledger
+open-below ledger item m = number-below 1 ledger item.id (open-number ledger item m)
 
 live-opens : (ledger : List Change) (item : OpenRecord) → Contains (live ledger) item → Contains (opens ledger) item
-live-opens ledger item m = Contains-filter (λ (x : OpenRecord). not (list_any (λ id. eqb id x.id) (dones ledger))) (opens ledger) item m
+live-opens ledger item m = Contains-filter (is_open ledger) (opens ledger) item m
 
-none-numbered : IsNumbered []
-none-numbered = record { below = λ item k. absurd (omega (arith, k.1)); one = λ x y k l f. absurd (omega (arith, k.1)) }
+-- records are told apart by their numbers
+abbrev AreApart : List OpenRecord → Type 0
+AreApart items = (a b : OpenRecord) → Contains items a → Contains items b → a.id ≡ b.id → a ≡ b
+
+apart-push : (ledger : List Change) (change : Change) → AreApart (opens ledger) → MayFollow ledger change → AreApart (opens (ledger ++ change ∷ []))
+apart-push ledger (Open item) apart may =
+    let bound : (x : OpenRecord) → Contains (opens ledger) x → x.id < item.id = λ x m. All-contains (λ id. id < item.id) (numbers ledger) x.id may.0.above (open-number ledger x m) in
+    let pushed : AreApart (opens ledger ++ item ∷ []) =
+    λ a b m n e. elim (Contains-push_cases (opens ledger) item a m) [
+      | inl k ↦ elim (Contains-push_cases (opens ledger) item b n) [
+        | inl l ↦ apart a b k l e
+        | inr f ↦ absurd (let low = bound a k in let same = ap (λ (y : OpenRecord). y.id) f in omega arith)
+      ]
+      | inr f ↦ elim (Contains-push_cases (opens ledger) item b n) [
+        | inl l ↦ absurd (let low = bound b l in let same = ap (λ (y : OpenRecord). y.id) f in omega arith)
+        | inr g ↦ sym f ∙ g
+      ]
+    ] in
+    subst AreApart (sym (opens-push_open ledger item)) pushed
+apart-push ledger (Done id) apart may = subst AreApart (sym (opens-push_done ledger id)) apart
+apart-push ledger (Settled id stamp digest) apart may = subst AreApart (sym (opens-append ledger (Settled id stamp digest ∷ []) ∙ append-nil (opens ledger))) apart
+apart-push ledger (Floor floor next) apart may = subst AreApart (sym (opens-append ledger (Floor floor next ∷ []) ∙ append-nil (opens ledger))) apart
+
+apart-from : (before changes : List Change) → AreApart (opens before) → IsLedgerFrom before changes → AreApart (opens (before ++ changes))
+apart-from before [] apart is = subst (λ (ledger : List Change). AreApart (opens ledger)) (sym (append-nil before)) apart
+apart-from before (change ∷ changes) apart is =
+    subst (λ (ledger : List Change). AreApart (opens ledger)) (append_assoc before (change ∷ []) changes)
+    (apart-from (before ++ change ∷ []) changes (apart-push before change apart is.0) is.1)
 
 -- two records of a ledger with one number are one
 pub opens-one : (ledger : List Change) → IsLedger ledger → (a b : OpenRecord) → Contains (opens ledger) a → Contains (opens ledger) b → a.id ≡ b.id → a ≡ b
-opens-one ledger is a b m n e = (numbered-from [] ledger none-numbered is).one a b m n e
+opens-one ledger is = apart-from [] ledger (λ a b m n e. absurd (omega (arith, m.1))) is
 
 pub live-one : (ledger : List Change) → IsLedger ledger → (a b : OpenRecord) → Contains (live ledger) a → Contains (live ledger) b → a.id ≡ b.id → a ≡ b
 live-one ledger is a b m n e = opens-one ledger is a b (live-opens ledger a m) (live-opens ledger b n) e
 
--- the numbers of a ledger's records are below the next
-pub recorded-below : (ledger : List Change) → IsLedger ledger → (id : ℕ) → Contains (map (λ item. item.id) (opens ledger)) id → id < next_id ledger
-recorded-below ledger is id m =
-    let at = Contains-unmap (λ (item : OpenRecord). item.id) (opens ledger) id m in
-    let low = (numbered-from [] ledger none-numbered is).below at.0 at.1 in
+pub live-below : (ledger : List Change) (id : ℕ) → Contains (map (λ item. item.id) (live ledger)) id → id < next_id ledger
+live-below ledger id m =
+    let at = Contains-unmap (λ (item : OpenRecord). item.id) (live ledger) id m in
+    let low = open-below ledger at.0 (live-opens ledger at.0 at.1) in
     let same = at.2 in
     omega arith
 
 -- what is settled was recorded, so its number is below the next
-settled-from : (before changes : List Change) → IsNumbered (opens before) → ((id : ℕ) → Contains (dones before) id → id < next_id before) → IsLedgerFrom before changes
-    → (id : ℕ) → Contains (dones (before ++ changes)) id → id < next_id (before ++ changes)
-settled-from before [] numbered below is = subst (λ (ledger : List Change). (id : ℕ) → Contains (dones ledger) id → id < next_id ledger) (sym (append-nil before)) below
-settled-from before (Open item ∷ changes) numbered below is =
-    let next = next_id-push_open before item in
-    subst (λ (ledger : List Change). (id : ℕ) → Contains (dones ledger) id → id < next_id ledger) (append_assoc before (Open item ∷ []) changes)
-    (settled-from (before ++ Open item ∷ []) changes (numbered-push before (Open item) numbered is.0)
-    (λ id m. let low = below id (subst (λ (ids : List ℕ). Contains ids id) (dones-push_open before item) m) in omega arith) is.1)
-settled-from before (Done settled ∷ changes) numbered below is =
-    let at = Contains-unmap (λ (item : OpenRecord). item.id) (live before) settled is.0 in
-    let low = numbered.below at.0 (live-opens before at.0 at.1) in
-    let same = at.2 in
-    let next : next_id (before ++ Done settled ∷ []) ≡ next_id before = ap (λ (items : List OpenRecord). length items + 1) (opens-push_done before settled) in
-    subst (λ (ledger : List Change). (id : ℕ) → Contains (dones ledger) id → id < next_id ledger) (append_assoc before (Done settled ∷ []) changes)
-    (settled-from (before ++ Done settled ∷ []) changes (numbered-push before (Done settled) numbered is.0)
-    (λ id m. elim (Contains-push_cases (dones before) settled id (subst (λ (ids : List ℕ). Contains ids id) (dones-push_done before settled) m)) [
-      | inl earlier ↦ let less = below id earlier in omega arith
-      | inr here ↦ omega (arith, here)
-    ]) is.1)
+abbrev AreBelow : List Change → Type 0
+AreBelow ledger = (id : ℕ) → Contains (dones ledger) id → id < next_id ledger
+
+below-push : (ledger : List Change) (change : Change) → AreBelow ledger → MayFollow ledger change → AreBelow (ledger ++ change ∷ [])
+below-push ledger (Open item) below may = λ id m.
+    let low = below id (subst (λ (ids : List ℕ). Contains ids id) (dones-push_open ledger item) m) in
+    let up = next_by-above (Open item) (next_id ledger) in
+    let is = next_id-push ledger (Open item) in
+    omega arith
+below-push ledger (Done settled) below may = λ id m.
+    let is = next_id-push ledger (Done settled) in
+    elim (Contains-push_cases (dones ledger) settled id (subst (λ (ids : List ℕ). Contains ids id) (dones-push_done ledger settled) m)) [
+      | inl earlier ↦ let low = below id earlier in omega arith
+      | inr here ↦ let low = live-below ledger settled may in omega arith
+    ]
+below-push ledger (Settled other stamp digest) below may = λ id m.
+    let low = below id (subst (λ (ids : List ℕ). Contains ids id) (dones-append ledger (Settled other stamp digest ∷ []) ∙ append-nil (dones ledger)) m) in
+    let up = next_by-above (Settled other stamp digest) (next_id ledger) in
+    let is = next_id-push ledger (Settled other stamp digest) in
+    omega arith
+below-push ledger (Floor floor next) below may = λ id m.
+    let low = below id (subst (λ (ids : List ℕ). Contains ids id) (dones-append ledger (Floor floor next ∷ []) ∙ append-nil (dones ledger)) m) in
+    let up = next_by-above (Floor floor next) (next_id ledger) in
+    let is = next_id-push ledger (Floor floor next) in
+    omega arith
+
+settled-from : (before changes : List Change) → AreBelow before → IsLedgerFrom before changes → AreBelow (before ++ changes)
+settled-from before [] below is = subst AreBelow (sym (append-nil before)) below
+settled-from before (change ∷ changes) below is =
+    subst AreBelow (append_assoc before (change ∷ []) changes) (settled-from (before ++ change ∷ []) changes (below-push before change below is.0) is.1)
 
 pub settled-below : (ledger : List Change) → IsLedger ledger → (id : ℕ) → Contains (dones ledger) id → id < next_id ledger
-settled-below ledger is = settled-from [] ledger none-numbered (λ id m. absurd (omega (arith, m.1))) is
+settled-below ledger is = settled-from [] ledger (λ id m. absurd (omega (arith, m.1))) is
 
--- no two records of a ledger have one key
-apart-from : (before changes : List Change) → AllPairs (λ a b. a ≢ b) (seen before) → IsLedgerFrom before changes → AllPairs (λ a b. a ≢ b) (seen (before ++ changes))
-apart-from before [] apart is = subst (λ (ledger : List Change). AllPairs (λ a b. a ≢ b) (seen ledger)) (sym (append-nil before)) apart
-apart-from before (Open item ∷ changes) apart is =
-    let pushed : AllPairs (λ a b. a ≢ b) (seen before ++ key_of item ∷ []) =
-    all_pairs_push (λ a b. a ≢ b) (seen before) (key_of item) apart
-    (λ k d l same. is.0.1 (subst (λ (key : Key). Contains (seen before) key) same (Contains-get_or (seen before) k d l))) in
-    subst (λ (ledger : List Change). AllPairs (λ a b. a ≢ b) (seen ledger)) (append_assoc before (Open item ∷ []) changes)
-    (apart-from (before ++ Open item ∷ []) changes (subst (λ (keys : List Key). AllPairs (λ a b. a ≢ b) keys) (sym (seen-push_open before item)) pushed) is.1)
-apart-from before (Done settled ∷ changes) apart is =
-    subst (λ (ledger : List Change). AllPairs (λ a b. a ≢ b) (seen ledger)) (append_assoc before (Done settled ∷ []) changes)
-    (apart-from (before ++ Done settled ∷ []) changes (subst (λ (items : List OpenRecord). AllPairs (λ a b. a ≢ b) (map key_of items)) (sym (opens-push_done before settled)) apart) is.1)
+-- what a run makes over a ledger may stand behind it
+pub made-follow : (ledger : List Change) (item : OpenRecord) → item.id ≡ next_id ledger → (IsSeen item.digest.0 ledger → ⊥) → MayFollow ledger (Open item)
+made-follow ledger item new fresh = (
+  record {
+    above = All-by (λ other. other < item.id) (numbers ledger) (λ other m. let low = number-below 1 ledger other m in omega arith);
+    next = inr new;
+  },
+  fresh,
+)
 
-pub seen-apart : (ledger : List Change) → IsLedger ledger → AllPairs (λ a b. a ≢ b) (seen ledger)
-seen-apart ledger is = apart-from [] ledger (λ i j d l k. absurd (omega arith)) is
+-- and leaves a ledger
+pub ledger-made : (ledger changes : List Change) → IsLedger ledger → AreMade IsLive ledger changes → IsLedger (after ledger changes)
+ledger-made ledger [] is h = is
+ledger-made ledger (Open item ∷ changes) is h = ledger-made (ledger ++ Open item ∷ []) changes (ledger-push ledger (Open item) is (made-follow ledger item h.0.0 h.0.1)) h.1
+ledger-made ledger (Done id ∷ changes) is h = ledger-made (ledger ++ Done id ∷ []) changes (ledger-push ledger (Done id) is h.0) h.1
+ledger-made ledger (Settled id stamp digest ∷ changes) is h = absurd h
+ledger-made ledger (Floor floor next ∷ changes) is h = absurd h
+
+-- a front of what is made leaves a ledger where the whole does
+pub ledger-cut : (ledger a b : List Change) → AreMade Whatever ledger (a ++ b) → IsLedger (after ledger (a ++ b)) → IsLedger (after ledger a)
+ledger-cut ledger a b h is =
+    let all : after ledger (a ++ b) ≡ (ledger ++ a) ++ b = made-after Whatever ledger (a ++ b) h ∙ sym (append_assoc ledger a b) in
+    subst IsLedger (sym (made-after Whatever ledger a (made-front Whatever ledger a b h))) (ledger-front [] (ledger ++ a) b (subst IsLedger all is))
 
 -- a record stays live unless one of these Dones is its own
 pub live-unless_settled : (ledger : List Change) (item : OpenRecord) → Contains (opens ledger) item → Contains (live ledger) item ⊎ Contains (dones ledger) item.id
@@ -139,7 +177,7 @@ live-unless_settled ledger item m =
       | true ↦ λ t.
           let at = list_any-at (λ (id : ℕ). eqb id item.id) (dones ledger) t in
           inr (subst (λ (id : ℕ). Contains (dones ledger) id) (eqb-true at.0 item.id at.2) at.1)
-      | false ↦ λ f. inl (Contains-kept (λ (x : OpenRecord). not (list_any (λ id. eqb id x.id) (dones ledger))) (opens ledger) item (ap not f) m)
+      | false ↦ λ f. inl (Contains-kept (is_open ledger) (opens ledger) item (ap not f) m)
     ]) refl
 
 -- what is live was recorded and isn't settled
@@ -160,6 +198,7 @@ live-kept_done ledger id other differs m =
 
 pub live-kept_open : (ledger : List Change) (item other : OpenRecord) → Contains (live ledger) other → Contains (live (ledger ++ Open item ∷ [])) other
 live-kept_open ledger item other m =
-    let keeps : OpenRecord → Bool = λ x. not (list_any (λ id. eqb id x.id) (dones ledger)) in
-    let all : live (ledger ++ Open item ∷ []) ≡ live ledger ++ filter keeps (item ∷ []) = rw (opens-push_open ledger item, dones-push_open ledger item) (filter-append keeps (opens ledger) (item ∷ [])) in
+    let keeps : OpenRecord → Bool = is_open ledger in
+    let all : live (ledger ++ Open item ∷ []) ≡ live ledger ++ filter keeps (item ∷ []) =
+    live-of (ledger ++ Open item ∷ []) (dones ledger) (opens ledger ++ item ∷ []) (dones-push_open ledger item) (opens-push_open ledger item) ∙ filter-append keeps (opens ledger) (item ∷ []) in
     subst (λ (items : List OpenRecord). Contains items other) (sym all) (Contains-append_left (live ledger) (filter keeps (item ∷ [])) other m)

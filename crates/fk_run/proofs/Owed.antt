@@ -15,15 +15,16 @@ use Rattle.fk_trace.specs.Decision.{Rules, answer}
 use Rattle.fk_trace.specs.Attempts.{IsAttempt}
 use Rattle.fk_trace.proofs.Lists.{list_any-at}
 use Rattle.fk_trace.proofs.Splits.{place_of}
-use Rattle.fk_trace.proofs.Ledgers.{opens-append}
+use Rattle.fk_trace.proofs.Ledgers.{opens-append, after-append}
+use Rattle.fk_trace.proofs.Made.{AreMade, Whatever, made-after, made-front}
 use Rattle.fk_trace.proofs.FirstCloses.{close_attempted-past}
 use Rattle.fk_run.specs.Place.{Place, entry}
 use Rattle.fk_run.specs.Turn.{TakenTurn, WholeTurn, after_turn, after_turns}
 use Rattle.fk_run.specs.Run.{Run}
 use Rattle.fk_run.specs.Legal.{Legal, LegalTurns}
 use Rattle.fk_run.specs.Headline.{IsTurnOf, IsWholeTurnOf, IsLiveIn, IsFirstDue, AttemptedIn, StartsWhatIsOwed}
-use Rattle.fk_run.proofs.Fronts.{items_of, made_by, past-after_turns, ledger-after_turns, AreWhole, front-whole, turn-at, in-turn}
-use Rattle.fk_run.proofs.Ledgers.{ledger-front, opens-one, live-recorded}
+use Rattle.fk_run.proofs.Fronts.{items_of, made_by, past-after_turns, ledger-after_turns, AreWhole, front-whole, turn-at, in-turn, made-turns}
+use Rattle.fk_run.proofs.Ledgers.{ledger-cut, opens-one, live-recorded}
 use Rattle.fk_run.proofs.Leaves.{leaves-ledger}
 use Rattle.fk_run.proofs.Closings.{closes-in_turn}
 use Rattle.fk_run.proofs.Turns.{settlements-whole}
@@ -46,7 +47,7 @@ starts-owed run legal front taken at =
     record {
       place = place;
       reached = refl;
-      opened = λ item permit opens. starts-open whole item permit (ap (λ (settled : List Change). answer run.rules (after place.ledger settled) taken.turn) (sym (settlements-whole whole)) ∙ opens);
+      opened = λ item permit making opens. starts-open whole item permit making (ap (λ (settled : List Change). answer run.rules (after place.ledger settled) taken.turn) (sym (settlements-whole whole)) ∙ opens);
       closed = λ item lives due none.
           let untried : close_attempted place.past item.id ≡ false =
           subst (λ (past : List Item). close_attempted past item.id ≡ false) (sym (past-after_turns (entry run.ledger) front)) (close_attempted-past [] (items_of front) item.id refl none) in
@@ -76,29 +77,41 @@ module _ (run : Run) (legal : Legal run) (is : IsLedger run.ledger) where
   ledger_in front taken = after (after_turns (entry run.ledger) front).ledger taken.changes
 
   -- the ledger as a turn leaves it
-  ledger-in : (front : List TakenTurn) (taken : TakenTurn) → ledger_in front taken ≡ run.ledger ++ (made_by front ++ taken.changes)
-  ledger-in front taken = ap (λ (ledger : List Change). ledger ++ taken.changes) (ledger-after_turns (entry run.ledger) front) ∙ append_assoc run.ledger (made_by front) taken.changes
+  made-in : (front : List TakenTurn) (taken : TakenTurn) (later : List TakenTurn) → run.turns ≡ front ++ taken ∷ later → AreMade Whatever run.ledger ((made_by front ++ taken.changes) ++ made_by later)
+  made-in front taken later placed =
+      let all : AreMade Whatever run.ledger (made_by (front ++ taken ∷ later)) =
+      subst (λ (turns : List TakenTurn). AreMade Whatever run.ledger (made_by turns)) placed (made-turns run.rules run.ending (entry run.ledger) run.turns legal.turns) in
+      subst (λ (changes : List Change). AreMade Whatever run.ledger changes)
+      (flat_map-append (λ (turn : TakenTurn). turn.changes) front (taken ∷ later) ∙ sym (append_assoc (made_by front) taken.changes (made_by later))) all
+
+  ledger-in : (front : List TakenTurn) (taken : TakenTurn) (later : List TakenTurn) → run.turns ≡ front ++ taken ∷ later → ledger_in front taken ≡ run.ledger ++ (made_by front ++ taken.changes)
+  ledger-in front taken later placed =
+      ap (λ (ledger : List Change). after ledger taken.changes) (ledger-after_turns (entry run.ledger) front) ∙ sym (after-append run.ledger (made_by front) taken.changes)
+      ∙ made-after Whatever run.ledger (made_by front ++ taken.changes) (made-front Whatever run.ledger (made_by front ++ taken.changes) (made_by later) (made-in front taken later placed))
 
   is-ledger-in : (front : List TakenTurn) (taken : TakenTurn) (later : List TakenTurn) → run.turns ≡ front ++ taken ∷ later → IsLedger (ledger_in front taken)
   is-ledger-in front taken later placed =
-      let all : IsLedger (run.ledger ++ made_by (front ++ taken ∷ later)) = subst (λ (turns : List TakenTurn). IsLedger (run.ledger ++ made_by turns)) placed (leaves-ledger run legal is) in
-      let joined : run.ledger ++ made_by (front ++ taken ∷ later) ≡ (run.ledger ++ (made_by front ++ taken.changes)) ++ made_by later =
-      ap (λ (changes : List Change). run.ledger ++ changes) (flat_map-append (λ (turn : TakenTurn). turn.changes) front (taken ∷ later) ∙ sym (append_assoc (made_by front) taken.changes (made_by later)))
-      ∙ sym (append_assoc run.ledger (made_by front ++ taken.changes) (made_by later)) in
-      subst IsLedger (sym (ledger-in front taken)) (ledger-front [] (run.ledger ++ (made_by front ++ taken.changes)) (made_by later) (subst IsLedger joined all))
+      let all : IsLedger (after run.ledger (made_by (front ++ taken ∷ later))) = subst (λ (turns : List TakenTurn). IsLedger (after run.ledger (made_by turns))) placed (leaves-ledger run legal is) in
+      let joined : made_by (front ++ taken ∷ later) ≡ (made_by front ++ taken.changes) ++ made_by later =
+      flat_map-append (λ (turn : TakenTurn). turn.changes) front (taken ∷ later) ∙ sym (append_assoc (made_by front) taken.changes (made_by later)) in
+      let here : ledger_in front taken ≡ after run.ledger (made_by front ++ taken.changes) =
+      ap (λ (ledger : List Change). after ledger taken.changes) (ledger-after_turns (entry run.ledger) front) ∙ sym (after-append run.ledger (made_by front) taken.changes) in
+      subst IsLedger (sym here)
+      (ledger-cut run.ledger (made_by front ++ taken.changes) (made_by later) (made-in front taken later placed) (subst (λ (changes : List Change). IsLedger (after run.ledger changes)) joined all))
 
   -- what an earlier turn recorded is recorded in a later one
-  opens-later : (before : List TakenTurn) (earlier : TakenTurn) (between : List TakenTurn) (taken : TakenTurn) (item : OpenRecord) → Contains (opens (ledger_in before earlier)) item
-      → Contains (opens (ledger_in (before ++ earlier ∷ between) taken)) item
-  opens-later before earlier between taken item m =
+  opens-later : (before : List TakenTurn) (earlier : TakenTurn) (between : List TakenTurn) (taken : TakenTurn) (later : List TakenTurn) → run.turns ≡ (before ++ earlier ∷ between) ++ taken ∷ later
+      → (item : OpenRecord) → Contains (opens (ledger_in before earlier)) item → Contains (opens (ledger_in (before ++ earlier ∷ between) taken)) item
+  opens-later before earlier between taken later placed item m =
       let first : List Change = run.ledger ++ (made_by before ++ earlier.changes) in
       let more : List Change = made_by between ++ taken.changes in
       let all : ledger_in (before ++ earlier ∷ between) taken ≡ first ++ more =
-      ledger-in (before ++ earlier ∷ between) taken
+      ledger-in (before ++ earlier ∷ between) taken later placed
       ∙ ap (λ (changes : List Change). run.ledger ++ (changes ++ taken.changes)) (flat_map-append (λ (turn : TakenTurn). turn.changes) before (earlier ∷ between) ∙ sym (append_assoc (made_by before) earlier.changes (made_by between)))
       ∙ ap (λ (changes : List Change). run.ledger ++ changes) (append_assoc (made_by before ++ earlier.changes) (made_by between) taken.changes)
       ∙ sym (append_assoc run.ledger (made_by before ++ earlier.changes) more) in
-      let there : Contains (opens first) item = subst (λ (ledger : List Change). Contains (opens ledger) item) (ledger-in before earlier) m in
+      let there : Contains (opens first) item =
+      subst (λ (ledger : List Change). Contains (opens ledger) item) (ledger-in before earlier (between ++ taken ∷ later) (placed ∙ append_assoc before (earlier ∷ between) (taken ∷ later))) m in
       subst (λ (items : List OpenRecord). Contains items item) (sym (ap opens all ∙ opens-append first more)) (Contains-append_left (opens first) (opens more) item there)
 
   -- before the first turn at or past its due no close of a record is attempted
@@ -115,7 +128,7 @@ module _ (run : Run) (legal : Legal run) (is : IsLedger run.ledger) where
       let closed = closes-in_turn whole turn.items attempt.0 turn.rest item.id is_attempt.0 turn.among is_attempt.1 in
       let recorded = live-recorded (ledger_in turn.front turn.taken) closed.0 closed.1 in
       let later : Contains (opens (ledger_in front taken)) closed.0 =
-      subst (λ (turns : List TakenTurn). Contains (opens (ledger_in turns taken)) closed.0) (sym turn.placed) (opens-later turn.front turn.taken turn.later taken closed.0 recorded.0) in
+      subst (λ (turns : List TakenTurn). Contains (opens (ledger_in turns taken)) closed.0) (sym turn.placed) (opens-later turn.front turn.taken turn.later taken at.later (subst (λ (turns : List TakenTurn). run.turns ≡ turns ++ taken ∷ at.later) turn.placed at.placed) closed.0 recorded.0) in
       let now = live-recorded (ledger_in front taken) item first.lives in
       let same : closed.0 ≡ item = opens-one (ledger_in front taken) (is-ledger-in front taken at.later at.placed) closed.0 item later now.0 closed.4 in
       let due : item.due ≤ turn.taken.turn.moment = subst (λ (record_due : OpenRecord). record_due.due ≤ turn.taken.turn.moment) same closed.2 in

@@ -1,23 +1,23 @@
 -- What a legal run holds: its opens are by grant and each at most once, its closes are of records that are due, and its records are
 -- settled by clean closes that ended well.
-use Rattle.std.proofs.Common.{◌≡◌, ◌≢◌, ℕ, ◌+◌, ◌≤◌, true, false, List, [], ◌∷◌, ◌++◌, length, map, refl, sym, ap, ◌∙◌, subst, arith, ◌⊎◌, inl, inr, append_assoc, append-nil, length-append}
+use Rattle.std.proofs.Common.{◌≡◌, ℕ, ◌≤◌, true, false, List, [], ◌∷◌, ◌++◌, length, refl, sym, ap, ◌∙◌, subst, arith, ◌⊎◌, inl, inr, append_assoc, append-nil, length-append}
 use Rattle.std.specs.Prelude.{IsTrue}
-use Rattle.std.specs.List.{AllPairs, Contains, range_with_len}
-use Rattle.std.proofs.lemmas.List.{map-append, length-map}
+use Rattle.std.specs.List.{Contains}
+use Rattle.std.proofs.lemmas.List.{length-map}
 use Rattle.std.proofs.lemmas.List.Elements.{Contains-append_cases, Contains-append_left}
 use Rattle.std.proofs.lemmas.Grind.{flat_map-append}
 use Rattle.fk_base.specs.declared.purpose.Purpose.{Purpose}
 use Rattle.fk_base.specs.declared.purpose.Purpose.TheVariants.{Open, Close}
 use Rattle.fk_trace.specs.declared.change.OpenRecord.{OpenRecord}
 use Rattle.fk_trace.specs.declared.change.Change.{Change}
-use Rattle.fk_trace.specs.declared.change.Change.TheVariants.{Open as OpenChange}
 use Rattle.fk_trace.specs.Trace.{Item, past_after}
-use Rattle.fk_trace.specs.Ledger.{opens, dones, seen, next_id, after, IsLedger}
+use Rattle.fk_trace.specs.Ledger.{opens, dones, after, IsLedger}
 use Rattle.fk_trace.specs.Decision.{Rules, IsGranted}
 use Rattle.fk_trace.specs.Settled.{settled_in, EndedCleanly}
 use Rattle.fk_trace.specs.Attempts.{IsAttempt, IsNoPoll}
-use Rattle.fk_trace.proofs.Splits.{cases_joined, Contains-place, Contains-recursion, AllPairs-front, range-joined, range-front}
-use Rattle.fk_trace.proofs.Ledgers.{opens-append, dones-append, next_id-append}
+use Rattle.fk_trace.proofs.Splits.{cases_joined, Contains-place, Contains-recursion}
+use Rattle.fk_trace.proofs.Ledgers.{opens-append, dones-append, after-append}
+use Rattle.fk_trace.proofs.Made.{AreMade, Whatever, made-numbered, made-apart, made-fresh}
 use Rattle.fk_trace.proofs.Settled.{ends-later, ends-longer, settled_in-append}
 use Rattle.fk_run.specs.Place.{Place, entry}
 use Rattle.fk_run.specs.Turn.{TakenTurn, WholeTurn, CutTurn, after_turn, after_turns}
@@ -25,10 +25,10 @@ use Rattle.fk_run.specs.Run.{Run, Ending, changes_of, cuts_turn, trace_of}
 use Rattle.fk_run.specs.Legal.{Legal, LegalTurns}
 use Rattle.fk_run.specs.Headline.{turns_begun, opens_attempted, IsTurnOf, StandsInTurn, OpensByGrant, ClosesWhenDue, OpensOnce}
 use Rattle.fk_run.proofs.Items.{none-opened, ended_polled, turns_begun-append, opens_attempted-append}
-use Rattle.fk_run.proofs.Turns.{MakesOne, makes_one, most-one, numbered-one, apart-one, turns_begun-front, opens-in_turn, settled_in-front, settlements-front, opens_attempted-front, opens_attempted-whole, settles-in_turn}
+use Rattle.fk_run.proofs.Turns.{most-one, turns_begun-front, opens-in_turn, settled_in-front, settlements-front, opens_attempted-front, opens_attempted-whole, settles-in_turn}
 use Rattle.fk_run.proofs.Closings.{closes-in_turn}
-use Rattle.fk_run.proofs.Fronts.{items_of, made_by, ids_of, ids-append, past-after_turns, ledger-after_turns, AreWhole, front-whole, turn-at, begun-front, settled-front, attempted-front, InTurn, in-turn, with_more, whole-attempt}
-use Rattle.fk_run.proofs.Ledgers.{ledger-front}
+use Rattle.fk_run.proofs.Fronts.{items_of, made_by, ids_of, ids-append, past-after_turns, ledger-after_turns, AreWhole, front-whole, turn-at, begun-front, settled-front, attempted-front, InTurn, in-turn, with_more, whole-attempt, made-turns}
+use Rattle.fk_run.proofs.Ledgers.{ledger-cut}
 use Rattle.fk_run.proofs.Leaves.{leaves-ledger}
 
 -- an attempt of a legal run: the turn in which it stands, and the whole turn that begins with it
@@ -69,6 +69,10 @@ module _ {run : Run} {before : List Item} {item : Item} (found : AttemptAt run b
         begun = ap turns_begun at.since ∙ omega arith;
       }
 
+-- its changes may be made over the ledger that it found
+pub made-run : (run : Run) → Legal run → AreMade Whatever run.ledger (changes_of run)
+made-run run legal = made-turns run.rules run.ending (entry run.ledger) run.turns legal.turns
+
 -- an open is attempted only for a datagram of the same turn that is granted
 pub opens-run : (run : Run) → Legal run → (before : List Item) (item : Item) (later : List Item) (id : ℕ) (words : List (List ℕ)) → trace_of run ≡ before ++ item ∷ later → IsAttempt (Open id) words item.event
     → OpensByGrant run before item id words
@@ -83,9 +87,10 @@ opens-run run legal before item later id words e h =
       place = place;
       reached = refl;
       granted = opened.0;
-      made = opened.1 ∙ ap (λ (changes : List Change). changes ++ OpenChange opened.0 ∷ []) (sym settled);
-      by_grant = subst (λ (changes : List Change). IsGranted run.rules (after place.ledger changes) found.at.taken.turn opened.0 words) (sym settled) opened.2;
-      numbered = opened.3;
+      making = opened.1;
+      made = opened.2 ∙ ap (λ (changes : List Change). changes ++ opened.1) (sym settled);
+      by_grant = subst (λ (changes : List Change). IsGranted run.rules (after place.ledger changes) found.at.taken.turn opened.0 opened.1 words) (sym settled) opened.3;
+      numbered = opened.4;
     }
 
 -- a close is attempted only for a live record that is due and idle
@@ -112,13 +117,17 @@ closes-run run legal before item later id words e h =
     ∙ sym (ids-append (made_by at.front) at.taken.changes) in
     let kept : IsLedger run.ledger → IsLedger (after place.ledger at.taken.changes) =
     λ is.
-    let all : IsLedger (run.ledger ++ made_by (at.front ++ at.taken ∷ at.later)) = subst (λ (turns : List TakenTurn). IsLedger (run.ledger ++ made_by turns)) at.placed (leaves-ledger run legal is) in
-    let joined : run.ledger ++ made_by (at.front ++ at.taken ∷ at.later) ≡ (place.ledger ++ at.taken.changes) ++ made_by at.later =
-    ap (λ (changes : List Change). run.ledger ++ changes) (flat_map-append (λ (taken : TakenTurn). taken.changes) at.front (at.taken ∷ at.later))
-    ∙ sym (append_assoc run.ledger (made_by at.front) (at.taken.changes ++ made_by at.later))
-    ∙ ap (λ (ledger : List Change). ledger ++ (at.taken.changes ++ made_by at.later)) (sym (ledger-after_turns (entry run.ledger) at.front))
-    ∙ sym (append_assoc place.ledger at.taken.changes (made_by at.later)) in
-    ledger-front [] (place.ledger ++ at.taken.changes) (made_by at.later) (subst IsLedger joined all) in
+    let joined : made_by (at.front ++ at.taken ∷ at.later) ≡ (made_by at.front ++ at.taken.changes) ++ made_by at.later =
+    flat_map-append (λ (taken : TakenTurn). taken.changes) at.front (at.taken ∷ at.later) ∙ sym (append_assoc (made_by at.front) at.taken.changes (made_by at.later)) in
+    let all : IsLedger (after run.ledger ((made_by at.front ++ at.taken.changes) ++ made_by at.later)) =
+    subst (λ (changes : List Change). IsLedger (after run.ledger changes)) joined
+    (subst (λ (turns : List TakenTurn). IsLedger (after run.ledger (made_by turns))) at.placed (leaves-ledger run legal is)) in
+    let made : AreMade Whatever run.ledger ((made_by at.front ++ at.taken.changes) ++ made_by at.later) =
+    subst (λ (changes : List Change). AreMade Whatever run.ledger changes) joined
+    (subst (λ (turns : List TakenTurn). AreMade Whatever run.ledger (made_by turns)) at.placed (made-run run legal)) in
+    let here : after place.ledger at.taken.changes ≡ after run.ledger (made_by at.front ++ at.taken.changes) =
+    ap (λ (ledger : List Change). after ledger at.taken.changes) (ledger-after_turns (entry run.ledger) at.front) ∙ sym (after-append run.ledger (made_by at.front) at.taken.changes) in
+    subst IsLedger (sym here) (ledger-cut run.ledger (made_by at.front ++ at.taken.changes) (made_by at.later) made all) in
     record {
       at = stands-in found (Close id) words h;
       place = _;
@@ -182,33 +191,23 @@ settled-turns rules ending (taken ∷ later) place (inr cut) id m =
 pub settled-run : (run : Run) → Legal run → (id : ℕ) → Contains (dones (changes_of run)) id → EndedCleanly [] (trace_of run) id
 settled-run run legal id m = settled-turns run.rules run.ending run.turns (entry run.ledger) legal.turns id m
 
--- the records of these turns: numbered on from the ledger, each opened once but perhaps for the last, with new digests
-record OpensEach (ending : Ending) (ledger : List Change) (trace : List Item) (changes : List Change) : Type 0 where
+-- the records of these turns: each opened once but perhaps for the last
+record OpensEach (ending : Ending) (trace : List Item) (changes : List Change) : Type 0 where
   unattempted : List ℕ
   attempted : opens_attempted trace ++ unattempted ≡ ids_of changes
   last : length unattempted ≤ 1
   whole : cuts_turn ending ≡ false → unattempted ≡ []
-  numbered : ids_of changes ≡ range_with_len (next_id ledger) (length (opens changes))
-  apart : AllPairs (λ a b. a ≢ b) (seen ledger) → AllPairs (λ a b. a ≢ b) (seen (ledger ++ changes))
 
--- the records of one turn and of those behind it are one on from the other
-each-joined : {ending : Ending} (ledger : List Change) (items later : List Item) (made others : List Change) → MakesOne ledger made → opens_attempted items ≡ ids_of made
-    → OpensEach ending (ledger ++ made) later others → OpensEach ending ledger (items ++ later) (made ++ others)
-each-joined ledger items later made others one attempted rest =
-    let joined = ids-append made others in
-    let count : length (opens made) + length (opens others) ≡ length (opens (made ++ others)) = sym (ap length (opens-append made others) ∙ length-append (opens made) (opens others)) in
-    record {
-      unattempted = rest.unattempted;
-      attempted =
-          ap (λ xs. xs ++ rest.unattempted) (opens_attempted-append items later) ∙ append_assoc (opens_attempted items) (opens_attempted later) rest.unattempted
-          ∙ ap (λ xs. xs ++ (opens_attempted later ++ rest.unattempted)) attempted ∙ ap (λ xs. ids_of made ++ xs) rest.attempted ∙ sym joined;
-      last = rest.last;
-      whole = rest.whole;
-      numbered =
-          joined ∙ ap (λ xs. xs ++ ids_of others) (numbered-one one) ∙ ap (λ xs. range_with_len (next_id ledger) (length (opens made)) ++ xs) rest.numbered
-          ∙ range-joined (next_id ledger) (length (opens made)) (length (opens others)) (length (opens (made ++ others))) (next_id (ledger ++ made)) count (sym (next_id-append ledger made));
-      apart = λ h. subst (λ (changes : List Change). AllPairs (λ a b. a ≢ b) (seen changes)) (append_assoc ledger made others) (rest.apart (apart-one one h));
-    }
+-- those of one turn and of the turns behind it
+each-joined : {ending : Ending} (items later : List Item) (made others : List Change) → opens_attempted items ≡ ids_of made → OpensEach ending later others → OpensEach ending (items ++ later) (made ++ others)
+each-joined items later made others attempted rest = record {
+  unattempted = rest.unattempted;
+  attempted =
+      ap (λ xs. xs ++ rest.unattempted) (opens_attempted-append items later) ∙ append_assoc (opens_attempted items) (opens_attempted later) rest.unattempted
+      ∙ ap (λ xs. xs ++ (opens_attempted later ++ rest.unattempted)) attempted ∙ ap (λ xs. ids_of made ++ xs) rest.attempted ∙ sym (ids-append made others);
+  last = rest.last;
+  whole = rest.whole;
+}
 
 module _ {rules : Rules} {place : Place} {taken : TakenTurn} (ending : Ending) (may : IsTrue (cuts_turn ending)) (cut : CutTurn rules place taken) where
   cut-attempted : (left : List ℕ) × (opens_attempted taken.items ++ left ≡ ids_of taken.changes)
@@ -222,55 +221,37 @@ module _ {rules : Rules} {place : Place} {taken : TakenTurn} (ending : Ending) (
         | inr none ↦ (ids_of taken.changes, ap (λ xs. xs ++ ids_of taken.changes) (none-opened taken.items none))
       ]
 
-  each-cut : OpensEach ending place.ledger taken.items taken.changes
+  each-cut : OpensEach ending taken.items taken.changes
   each-cut =
-      let one = makes_one cut.whole in
       let attempted = cut-attempted in
-      let digests : seen (place.ledger ++ (taken.changes ++ cut.unmade)) ≡ seen (place.ledger ++ taken.changes) ++ seen cut.unmade =
-      ap seen (sym (append_assoc place.ledger taken.changes cut.unmade)) ∙ ap (map (λ (item : OpenRecord). item.digest.0)) (opens-append (place.ledger ++ taken.changes) cut.unmade)
-      ∙ map-append (λ (item : OpenRecord). item.digest.0) (opens (place.ledger ++ taken.changes)) (opens cut.unmade) in
-      let front = range-front (ids_of taken.changes) (ids_of cut.unmade) (next_id place.ledger) (length (opens (taken.changes ++ cut.unmade))) (sym (ids-append taken.changes cut.unmade) ∙ numbered-one one) in
-      let most = most-one one in
+      let most = most-one cut.whole in
       let all = ap length (opens-append taken.changes cut.unmade) ∙ length-append (opens taken.changes) (opens cut.unmade) in
       let made = length-map (opens taken.changes) (λ (item : OpenRecord). item.id) in
       let counted = sym (length-append (opens_attempted taken.items) attempted.0) ∙ ap length attempted.1 in
-      record {
-        unattempted = attempted.0;
-        attempted = attempted.1;
-        last = omega arith;
-        whole = λ f. absurd (let t = may in cc);
-        numbered = front ∙ ap (range_with_len (next_id place.ledger)) made;
-        apart = λ h. AllPairs-front (λ a b. a ≢ b) (seen (place.ledger ++ taken.changes)) (seen cut.unmade) (subst (λ (ds : List (List ℕ)). AllPairs (λ a b. a ≢ b) ds) digests (apart-one one h));
-      }
+      record { unattempted = attempted.0; attempted = attempted.1; last = omega arith; whole = λ f. absurd (let t = may in cc) }
 
-each-turn : (rules : Rules) (ending : Ending) (turns : List TakenTurn) (place : Place) → LegalTurns rules place ending turns → OpensEach ending place.ledger (items_of turns) (made_by turns)
-each-turn rules ending [] place legal =
-    record {
-      unattempted = [];
-      attempted = refl;
-      last = omega arith;
-      whole = λ f. refl;
-      numbered = refl;
-      apart = λ h. subst (λ (all : List Change). AllPairs (λ a b. a ≢ b) (seen all)) (sym (append-nil place.ledger)) h;
-    }
+each-turn : (rules : Rules) (ending : Ending) (turns : List TakenTurn) (place : Place) → LegalTurns rules place ending turns → OpensEach ending (items_of turns) (made_by turns)
+each-turn rules ending [] place legal = record { unattempted = []; attempted = refl; last = omega arith; whole = λ f. refl }
 each-turn rules ending (taken ∷ later) place legal =
     elim legal [
-      | inl w ↦ each-joined place.ledger taken.items (items_of later) taken.changes (made_by later) (makes_one w.0) (opens_attempted-whole w.0) (each-turn rules ending later (after_turn place taken) w.1)
+      | inl w ↦ each-joined taken.items (items_of later) taken.changes (made_by later) (opens_attempted-whole w.0) (each-turn rules ending later (after_turn place taken) w.1)
       | inr cut ↦
-          subst (λ (turns : List TakenTurn). OpensEach ending place.ledger (taken.items ++ items_of turns) (taken.changes ++ made_by turns)) (sym cut.1)
-          (subst (λ (trace : List Item). OpensEach ending place.ledger trace (taken.changes ++ [])) (sym (append-nil taken.items))
-          (subst (λ (changes : List Change). OpensEach ending place.ledger taken.items changes) (sym (append-nil taken.changes)) (each-cut ending cut.0 cut.2)))
+          subst (λ (turns : List TakenTurn). OpensEach ending (taken.items ++ items_of turns) (taken.changes ++ made_by turns)) (sym cut.1)
+          (subst (λ (trace : List Item). OpensEach ending trace (taken.changes ++ [])) (sym (append-nil taken.items))
+          (subst (λ (changes : List Change). OpensEach ending taken.items changes) (sym (append-nil taken.changes)) (each-cut ending cut.0 cut.2)))
     ]
 
--- the records of a run are numbered on, each is opened at most once, and their digests differ
+-- the records of a run are numbered on, each is opened at most once, and no key stands twice
 pub once-run : (run : Run) → Legal run → OpensOnce run
 once-run run legal =
     let each = each-turn run.rules run.ending run.turns (entry run.ledger) legal.turns in
+    let made = made-run run legal in
     record {
       unattempted = each.unattempted;
       attempted = each.attempted;
       last = each.last;
       whole = each.whole;
-      numbered = each.numbered;
-      apart = each.apart;
+      numbered = (made-numbered Whatever run.ledger (changes_of run) made).0;
+      apart = made-apart Whatever run.ledger (changes_of run) made;
+      fresh = made-fresh Whatever run.ledger (changes_of run) made;
     }

@@ -28,9 +28,9 @@ use Rattle.fk_run.proofs.Turns.{whole-polls, whole-closed}
 opened-no_close : (id : ℕ) (a : Answer) (opened : List Item) → AttemptsThatOpen a opened → close_attempted opened id ≡ false
 opened-no_close id Nothing opened h = rw h refl
 opened-no_close id (Refuses why) opened h = rw h refl
-opened-no_close id (Opens item permit) [] h = absurd h
-opened-no_close id (Opens item permit) (x ∷ []) h = open-no_closes id item.id permit.opening x h
-opened-no_close id (Opens item permit) (x ∷ y ∷ opened) h = absurd h
+opened-no_close id (Opens item permit making) [] h = absurd h
+opened-no_close id (Opens item permit making) (x ∷ []) h = open-no_closes id item.id permit.opening x h
+opened-no_close id (Opens item permit making) (x ∷ y ∷ opened) h = absurd h
 
 one-attempt : (purpose : Purpose) (words : List (List ℕ)) (items : List Item) → IsOneAttempt purpose words items → AttemptedIn items purpose words
 one-attempt purpose words [] h = absurd h
@@ -50,8 +50,8 @@ module _ {rules : Rules} {place : Place} {taken : TakenTurn} (whole : WholeTurn 
       subst (λ (all : List Item). Contains all item) (sym whole.nothing_else.1) (Contains-tail whole.start (begun ++ whole.closed) item (Contains-append_right begun whole.closed item m))
 
   -- the open of what is to be opened is attempted
-  pub starts-open : (item : OpenRecord) (permit : Permit) → answer rules (after place.ledger whole.settled) taken.turn ≡ Opens item permit → AttemptedIn taken.items (Open item.id) permit.opening
-  starts-open item permit e =
+  pub starts-open : (item : OpenRecord) (permit : Permit) (making : List Change) → answer rules (after place.ledger whole.settled) taken.turn ≡ Opens item permit making → AttemptedIn taken.items (Open item.id) permit.opening
+  starts-open item permit making e =
       let one = one-attempt (Open item.id) permit.opening whole.opened (subst (λ (a : Answer). AttemptsThatOpen a whole.opened) e whole.attempts_that_open_once) in
       (one.0, opened-there one.0 one.1, one.2)
 

@@ -1,8 +1,9 @@
 -- What is said of once, over runs of any kind that follow one another over the same areas.
-use Rattle.std.proofs.Common.{◌≡◌, ◌≢◌, List, [], ◌∷◌, sym, subst, inl, inr, arith}
+use Rattle.std.proofs.Common.{◌≡◌, List, [], ◌∷◌, sym, subst, inl, inr, arith}
 use Rattle.std.specs.List.{flat_map, AllPairs, AllByRecursion, Contains}
 use Rattle.std.proofs.lemmas.List.Elements.{Contains-append_cases}
-use Rattle.fk_trace.specs.Ledger.{Key, State}
+use Rattle.fk_trace.specs.Ledger.{Key, State, Bars, IsLater}
+use Rattle.fk_trace.proofs.Made.{later-unbarred}
 use Rattle.fk_run.proofs.Pairs.{pairs-joined}
 
 -- A run, as far as it is asked which keys it attempted.
@@ -13,13 +14,10 @@ pub record Stay : Type 0 where
   -- the keys of the records whose open it attempted, one for each attempt
   pub attempted : List Key
 
--- no record of this key may be made over a ledger in this State
-abbrev pub Bars : State → Key → Type 0
-Bars state key = Contains state.seen key
-
--- The keys that were attempted differ, none is barred by what was found, and each is by what was left. What was barred is barred still.
+-- Of the keys that were attempted no two are one, none is barred by what was found, and each is by what was left. What was barred is barred
+-- still.
 pub record IsStay (stay : Stay) : Type 0 where
-  pub distinct : AllPairs (λ a b. a ≢ b) stay.attempted
+  pub apart : AllPairs IsLater stay.attempted
   pub fresh : (key : Key) → Contains stay.attempted key → Bars stay.found key → ⊥
   pub barred : (key : Key) → Contains stay.attempted key → Bars stay.left key
   pub kept : (key : Key) → Bars stay.found key → Bars stay.left key
@@ -43,8 +41,8 @@ stays-fresh found (stay ∷ later) are follow key m barred =
     ]
 
 -- and no two of them are one
-pub stays-distinct : (found : State) (stays : List Stay) → AllByRecursion IsStay stays → StaysFollow found stays → AllPairs (λ a b. a ≢ b) (all_attempted stays)
-stays-distinct found [] are follow = λ i j d l k. absurd (omega arith)
-stays-distinct found (stay ∷ later) are follow =
-    pairs-joined (λ a b. a ≢ b) stay.attempted (all_attempted later) are.0.distinct (stays-distinct stay.left later are.1 follow.1)
-    (λ a b m n same. stays-fresh stay.left later are.1 follow.1 b n (are.0.barred b (subst (λ (key : Key). Contains stay.attempted key) same m)))
+pub stays-apart : (found : State) (stays : List Stay) → AllByRecursion IsStay stays → StaysFollow found stays → AllPairs IsLater (all_attempted stays)
+stays-apart found [] are follow = λ i j d l k. absurd (omega arith)
+stays-apart found (stay ∷ later) are follow =
+    pairs-joined IsLater stay.attempted (all_attempted later) are.0.apart (stays-apart stay.left later are.1 follow.1)
+    (λ a b m n. later-unbarred stay.left a b (are.0.barred a m) (stays-fresh stay.left later are.1 follow.1 b n))

@@ -1,25 +1,24 @@
 -- What one whole turn holds: it begins with its Turn, its attempts are those of its open and of its closes, and its changes
 -- are Dones and then the one record that is opened.
-use Rattle.std.proofs.Common.{◌≡◌, ◌≢◌, ℕ, ◌+◌, ◌≤◌, true, List, [], ◌∷◌, ◌++◌, length, map, Option, None, refl, sym, ap, ◌∙◌, subst, arith, inl, inr, append_assoc, append-nil}
-use Rattle.std.specs.List.{cons_option, AllPairs, AllByRecursion, Contains, range_with_len}
-use Rattle.std.proofs.lemmas.List.{map-append}
-use Rattle.std.proofs.lemmas.List.Elements.{Contains-append_cases, Contains-get_or}
-use Rattle.std.proofs.lemmas.List.Quantifiers.{all_pairs_push}
+use Rattle.std.proofs.Common.{◌≡◌, ℕ, ◌≤◌, true, List, [], ◌∷◌, ◌++◌, length, map, Option, None, refl, sym, ap, ◌∙◌, subst, arith, inl, inr, append_assoc, append-nil}
+use Rattle.std.specs.List.{cons_option, AllByRecursion, Contains}
+use Rattle.std.proofs.lemmas.List.Elements.{Contains-append_cases}
 use Rattle.fk_base.specs.declared.purpose.Purpose.{Purpose}
 use Rattle.fk_base.specs.declared.purpose.Purpose.TheVariants.{Open, Close}
 use Rattle.fk_trace.specs.declared.change.OpenRecord.{OpenRecord}
 use Rattle.fk_trace.specs.declared.change.Change.{Change}
-use Rattle.fk_trace.specs.declared.change.Change.TheVariants.{Open as OpenChange, Done}
+use Rattle.fk_trace.specs.declared.change.Change.TheVariants.{Done}
 use Rattle.fk_trace.specs.Trace.{Event, Item, Child, attempt_of, is_turn, past_after}
-use Rattle.fk_trace.specs.Ledger.{opens, dones, seen, next_id, after}
+use Rattle.fk_trace.specs.Ledger.{opens, dones, after}
 use Rattle.fk_trace.specs.Decision.{Permit, Rules, Answer, IsGranted, recorded_by, answer}
 use Rattle.fk_trace.specs.Decision.Answer.{Nothing, Refuses, Opens}
 use Rattle.fk_trace.specs.Settled.{settled_in, settled_at, settlements, EndedCleanly}
 use Rattle.fk_trace.specs.Attempts.{IsPollOf, IsAttempt, AttemptsThatOpen}
 use Rattle.fk_trace.proofs.Lists.{Contains-cases}
 use Rattle.fk_trace.proofs.Splits.{cases_joined, recursion-behind, recursion-joined, Contains-place, Contains-recursion, second_of_zip, first_of_zip}
-use Rattle.fk_trace.proofs.Ledgers.{opens-dones, dones-dones, dones-recorded, opens-append, dones-append, seen-append_none}
-use Rattle.fk_trace.proofs.Grants.{granted-opens}
+use Rattle.fk_trace.proofs.Ledgers.{opens-dones, dones-dones, opens-append, dones-append}
+use Rattle.fk_trace.proofs.Made.{AreMade, Whatever, made-dones, made-joined}
+use Rattle.fk_trace.proofs.Grants.{granted-opens, answer-made, opens-answer, dones-answer}
 use Rattle.fk_trace.proofs.Settled.{settled_in-append, settled_in-none, ends-settled, ends-longer, ends-later}
 use Rattle.fk_run.specs.Place.{Place}
 use Rattle.fk_run.specs.Turn.{TakenTurn, WholeTurn}
@@ -30,33 +29,33 @@ use Rattle.fk_run.proofs.Items.{Tries, Polls, attempt-no_turn, attempt-no_poll, 
 pub opened-tries : (a : Answer) (opened : List Item) → AttemptsThatOpen a opened → AllByRecursion Tries opened
 opened-tries Nothing opened h = rw h tt
 opened-tries (Refuses why) opened h = rw h tt
-opened-tries (Opens item permit) [] h = absurd h
-opened-tries (Opens item permit) (x ∷ []) h = ((Open item.id, permit.opening, h), tt)
-opened-tries (Opens item permit) (x ∷ y ∷ opened) h = absurd h
+opened-tries (Opens item permit making) [] h = absurd h
+opened-tries (Opens item permit making) (x ∷ []) h = ((Open item.id, permit.opening, h), tt)
+opened-tries (Opens item permit making) (x ∷ y ∷ opened) h = absurd h
 
-opened-ids : (a : Answer) (opened : List Item) → AttemptsThatOpen a opened → opens_attempted opened ≡ map (λ item. item.id) (opens (recorded_by a))
-opened-ids Nothing opened h = rw h refl
-opened-ids (Refuses why) opened h = rw h refl
-opened-ids (Opens item permit) [] h = absurd h
-opened-ids (Opens item permit) (x ∷ []) h = ap (λ (o : Option ℕ). cons_option o []) (attempt-opens (Open item.id) permit.opening x.event h)
-opened-ids (Opens item permit) (x ∷ y ∷ opened) h = absurd h
+-- the answer makes the one record that it opens
+abbrev MakesIt : Answer → Type 0
+MakesIt a = (item : OpenRecord) (permit : Permit) (making : List Change) → a ≡ Opens item permit making → opens making ≡ item ∷ []
+
+opened-ids : (a : Answer) (opened : List Item) → MakesIt a → AttemptsThatOpen a opened → opens_attempted opened ≡ map (λ item. item.id) (opens (recorded_by a))
+opened-ids Nothing opened makes h = rw h refl
+opened-ids (Refuses why) opened makes h = rw h refl
+opened-ids (Opens item permit making) [] makes h = absurd h
+opened-ids (Opens item permit making) (x ∷ []) makes h =
+    ap (λ (o : Option ℕ). cons_option o []) (attempt-opens (Open item.id) permit.opening x.event h) ∙ sym (ap (map (λ (r : OpenRecord). r.id)) (makes item permit making refl))
+opened-ids (Opens item permit making) (x ∷ y ∷ opened) makes h = absurd h
 
 opened-by : (a : Answer) (opened : List Item) (x : Item) → AttemptsThatOpen a opened → Contains opened x
-    → (item : OpenRecord) × (permit : Permit) × (a ≡ Opens item permit) × IsAttempt (Open item.id) permit.opening x.event
+    → (item : OpenRecord) × (permit : Permit) × (making : List Change) × (a ≡ Opens item permit making) × IsAttempt (Open item.id) permit.opening x.event
 opened-by Nothing opened x h m = let some = rw h at m in absurd (omega (arith, some.1))
 opened-by (Refuses why) opened x h m = let some = rw h at m in absurd (omega (arith, some.1))
-opened-by (Opens item permit) [] x h m = absurd h
-opened-by (Opens item permit) (y ∷ []) x h m =
+opened-by (Opens item permit making) [] x h m = absurd h
+opened-by (Opens item permit making) (y ∷ []) x h m =
     elim (Contains-cases y [] x m) [
-      | inl e ↦ (item, permit, refl, subst (λ (z : Item). IsAttempt (Open item.id) permit.opening z.event) e h)
+      | inl e ↦ (item, permit, making, refl, subst (λ (z : Item). IsAttempt (Open item.id) permit.opening z.event) e h)
       | inr n ↦ absurd (omega (arith, n.1))
     ]
-opened-by (Opens item permit) (y ∷ z ∷ opened) x h m = absurd h
-
--- the changes make no record, or one that is the ledger's next and has a new digest
-pub data MakesOne (ledger changes : List Change) : Type 0 where
-  MakesNone : opens changes ≡ [] → MakesOne ledger changes
-  MakesOpen : (item : OpenRecord) → opens changes ≡ item ∷ [] → item.id ≡ next_id ledger → (Contains (seen ledger) item.digest.0 → ⊥) → MakesOne ledger changes
+opened-by (Opens item permit making) (y ∷ z ∷ opened) x h m = absurd h
 
 module _ {rules : Rules} {place : Place} {taken : TakenTurn} (whole : WholeTurn rules place taken) where
   begins-turn : is_turn whole.start.event ≡ true
@@ -137,19 +136,20 @@ module _ {rules : Rules} {place : Place} {taken : TakenTurn} (whole : WholeTurn 
 
   -- an open is attempted for the record that is made of what was granted
   pub opens-in_turn : (front : List Item) (item : Item) (rest : List Item) (id : ℕ) (words : List (List ℕ)) → taken.items ≡ front ++ item ∷ rest → IsAttempt (Open id) words item.event
-      → (granted : OpenRecord) × (taken.changes ≡ whole.settled ++ OpenChange granted ∷ []) × IsGranted rules (after place.ledger whole.settled) taken.turn granted words × (granted.id ≡ id)
+      → (granted : OpenRecord) × (making : List Change) × (taken.changes ≡ whole.settled ++ making) × IsGranted rules (after place.ledger whole.settled) taken.turn granted making words × (granted.id ≡ id)
   opens-in_turn front item rest id words e h =
       let stands = attempt-place front item rest (Open id) words e h in
       let stood : List Change = after place.ledger whole.settled in
       elim (Contains-append_cases whole.opened whole.closed item (Contains-place (whole.opened ++ whole.closed) stands.0 item rest stands.2)) [
         | inl among ↦
             let by = opened-by (answer rules stood taken.turn) whole.opened item whole.attempts_that_open_once among in
-            let same = attempts-same (Open id) (Open by.0.id) words by.1.opening item.event h by.3 in
-            let made : whole.recorded ≡ OpenChange by.0 ∷ [] = whole.records_what_is_granted ∙ ap recorded_by by.2 in
+            let same = attempts-same (Open id) (Open by.0.id) words by.1.opening item.event h by.4 in
+            let made : whole.recorded ≡ by.2 = whole.records_what_is_granted ∙ ap recorded_by by.3 in
             let alike : by.0.id ≡ id = let f = same.0 in cc in (
               by.0,
+              by.2,
               whole.nothing_else.2 ∙ ap (λ xs. whole.settled ++ xs) made,
-              subst (λ (ws : List (List ℕ)). IsGranted rules stood taken.turn by.0 ws) (sym same.1) (granted-opens by.0 by.1 rules stood taken.turn by.2),
+              subst (λ (ws : List (List ℕ)). IsGranted rules stood taken.turn by.0 by.2 ws) (sym same.1) (granted-opens by.0 by.1 by.2 rules stood taken.turn by.3),
               alike,
             )
         | inr among ↦
@@ -165,7 +165,7 @@ module _ {rules : Rules} {place : Place} {taken : TakenTurn} (whole : WholeTurn 
       elim (cases_joined whole.opened whole.closed stands.0 item rest stands.2) [
         | inl s ↦
             let by = opened-by (answer rules (after place.ledger whole.settled) taken.turn) whole.opened item whole.attempts_that_open_once (Contains-place whole.opened stands.0 item s.0 s.1) in
-            absurd (let same = (attempts-same (Close id) (Open by.0.id) words by.1.opening item.event h by.3).0 in cc)
+            absurd (let same = (attempts-same (Close id) (Open by.0.id) words by.1.opening item.event h by.4).0 in cc)
         | inr s ↦ (
           s.0,
           stands.1 ∙ ap (λ xs. (whole.start ∷ whole.polled) ++ xs) s.1 ∙ sym (append_assoc (whole.start ∷ whole.polled) whole.opened s.0),
@@ -177,7 +177,7 @@ module _ {rules : Rules} {place : Place} {taken : TakenTurn} (whole : WholeTurn 
   settled-dones : dones taken.changes ≡ dones whole.settled
   settled-dones =
       ap dones whole.nothing_else.2 ∙ dones-append whole.settled whole.recorded
-      ∙ ap (λ xs. dones whole.settled ++ xs) (ap dones whole.records_what_is_granted ∙ dones-recorded (answer rules (after place.ledger whole.settled) taken.turn))
+      ∙ ap (λ xs. dones whole.settled ++ xs) (ap dones whole.records_what_is_granted ∙ dones-answer rules (after place.ledger whole.settled) taken.turn (answer rules (after place.ledger whole.settled) taken.turn) refl)
       ∙ append-nil (dones whole.settled)
 
   changes-dones : dones taken.changes ≡ settled_in (whole.start ∷ place.past) whole.polled
@@ -237,7 +237,7 @@ module _ {rules : Rules} {place : Place} {taken : TakenTurn} (whole : WholeTurn 
       ∙ append-nil (opens_attempted (whole.polled ++ whole.opened))
       ∙ opens_attempted-append whole.polled whole.opened
       ∙ ap (λ xs. xs ++ opens_attempted whole.opened) (polls-no_opens whole.polled whole-polls)
-      ∙ opened-ids a whole.opened whole.attempts_that_open_once
+      ∙ opened-ids a whole.opened (λ item permit making e. opens-answer rules (after place.ledger whole.settled) taken.turn item permit making e) whole.attempts_that_open_once
       ∙ sym (ap (map (λ (item : OpenRecord). item.id)) (changes-opens ∙ ap opens whole.records_what_is_granted))
 
   -- and they are attempted before each close
@@ -251,41 +251,25 @@ module _ {rules : Rules} {place : Place} {taken : TakenTurn} (whole : WholeTurn 
       sym (append-nil (opens_attempted front)) ∙ ap (λ xs. opens_attempted front ++ xs) (sym none) ∙ sym (opens_attempted-append front (item ∷ rest)) ∙ ap opens_attempted (sym e) ∙ opens_attempted-whole
 
   -- a turn makes one record at most
-  pub makes_one : MakesOne place.ledger taken.changes
-  makes_one =
+  pub most-one : length (opens taken.changes) ≤ 1
+  most-one =
       let stood : List Change = after place.ledger whole.settled in
       let made : (a : Answer) → answer rules stood taken.turn ≡ a → opens taken.changes ≡ opens (recorded_by a) = λ a e. changes-opens ∙ ap opens (whole.records_what_is_granted ∙ ap recorded_by e) in
-      let one : (item : OpenRecord) (permit : Permit) → answer rules stood taken.turn ≡ Opens item permit → MakesOne place.ledger taken.changes =
-      λ item permit e.
-      let granted = granted-opens item permit rules stood taken.turn e in
-      let id_same : next_id stood ≡ next_id place.ledger =
-      ap (λ (items : List OpenRecord). length items + 1) (opens-append place.ledger whole.settled ∙ ap (λ xs. opens place.ledger ++ xs) settled-opens ∙ append-nil (opens place.ledger)) in
-      let unseen : Contains (seen place.ledger) (rules.digest granted.datagram) → ⊥ =
-      subst (λ (digests : List (List ℕ)). Contains digests (rules.digest granted.datagram) → ⊥) (seen-append_none place.ledger whole.settled settled-opens) granted.fresh in
-      MakesOpen item (made (Opens item permit) e) (ap (λ (r : OpenRecord). r.id) granted.recorded ∙ id_same)
-      (subst (λ (digest : List ℕ). Contains (seen place.ledger) digest → ⊥) (sym (ap (λ (r : OpenRecord). r.digest.0) granted.recorded)) unseen) in
-      (elim (answer rules stood taken.turn) as (λ a. answer rules stood taken.turn ≡ a → MakesOne place.ledger taken.changes) [
-        | Nothing ↦ λ e. MakesNone (made Nothing e)
-        | Refuses why ↦ λ e. MakesNone (made (Refuses why) e)
-        | Opens item permit ↦ λ e. one item permit e
+      (elim (answer rules stood taken.turn) as (λ a. answer rules stood taken.turn ≡ a → length (opens taken.changes) ≤ 1) [
+        | Nothing ↦ λ e. let all = ap length (made Nothing e) in omega arith
+        | Refuses why ↦ λ e. let all = ap length (made (Refuses why) e) in omega arith
+        | Opens item permit making ↦ λ e.
+            let all : length (opens taken.changes) ≡ 1 = ap length (made (Opens item permit making) e ∙ opens-answer rules stood taken.turn item permit making e) in
+            omega arith
       ]) refl
 
-module _ {ledger changes : List Change} where
-  -- the record is the ledger's next
-  pub numbered-one : MakesOne ledger changes → map (λ item. item.id) (opens changes) ≡ range_with_len (next_id ledger) (length (opens changes))
-  numbered-one (MakesNone e) = subst (λ (items : List OpenRecord). map (λ item. item.id) items ≡ range_with_len (next_id ledger) (length items)) (sym e) refl
-  numbered-one (MakesOpen item e n fresh) = subst (λ (items : List OpenRecord). map (λ item. item.id) items ≡ range_with_len (next_id ledger) (length items)) (sym e) (ap (λ k. k ∷ []) n)
-
-  pub most-one : MakesOne ledger changes → length (opens changes) ≤ 1
-  most-one (MakesNone e) = rw e (omega arith)
-  most-one (MakesOpen item e n fresh) = rw e (omega arith)
-
-  -- its digest is a new one
-  pub apart-one : MakesOne ledger changes → AllPairs (λ a b. a ≢ b) (seen ledger) → AllPairs (λ a b. a ≢ b) (seen (ledger ++ changes))
-  apart-one (MakesNone e) h = subst (λ (digests : List (List ℕ)). AllPairs (λ a b. a ≢ b) digests) (sym (seen-append_none ledger changes e)) h
-  apart-one (MakesOpen item e n fresh) h =
-      let all : seen (ledger ++ changes) ≡ seen ledger ++ item.digest.0 ∷ [] =
-      ap (map (λ (r : OpenRecord). r.digest.0)) (opens-append ledger changes ∙ ap (λ xs. opens ledger ++ xs) e) ∙ map-append (λ (r : OpenRecord). r.digest.0) (opens ledger) (item ∷ []) in
-      subst (λ (digests : List (List ℕ)). AllPairs (λ a b. a ≢ b) digests) (sym all)
-      (all_pairs_push (λ a b. a ≢ b) (seen ledger) item.digest.0 h
-      (λ k d l same. fresh (subst (λ (digest : List ℕ). Contains (seen ledger) digest) same (Contains-get_or (seen ledger) k d l))))
+  -- its changes may be made where it stands
+  pub whole-made : AreMade Whatever place.ledger taken.changes
+  whole-made =
+      let ids : List ℕ = settled_in (whole.start ∷ place.past) whole.polled in
+      let settled : AreMade Whatever place.ledger whole.settled =
+      subst (λ (changes : List Change). AreMade Whatever place.ledger changes) (sym whole.settles_clean_good_ends) (made-dones place.ledger ids) in
+      let stood : List Change = after place.ledger whole.settled in
+      let recorded : AreMade Whatever stood whole.recorded =
+      subst (λ (changes : List Change). AreMade Whatever stood changes) (sym whole.records_what_is_granted) (answer-made Whatever rules stood taken.turn (answer rules stood taken.turn) refl) in
+      subst (λ (changes : List Change). AreMade Whatever place.ledger changes) (sym whole.nothing_else.2) (made-joined Whatever place.ledger whole.settled whole.recorded settled recorded)

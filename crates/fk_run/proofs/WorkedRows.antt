@@ -45,18 +45,18 @@ open_words = codes "/bin/o" ∷ []
 abbrev pub close_words : List (List ℕ)
 close_words = codes "/bin/c" ∷ []
 
--- any rules that grant each datagram for thirty seconds will do, so its digest is the datagram itself here
+-- any rules that grant each datagram for thirty seconds will do, so its digest is the datagram itself here, and its stamp the moment
 abbrev pub rules : Rules
 rules = record {
   misshapen = λ datagram. None;
   digest = λ datagram. datagram;
-  admit = λ moment from datagram. Granted (record { stanza = 1; seconds = 30; ip = source; pair = pair; opening = open_words; closing = close_words });
-  has_room = λ ledger item. true;
+  admit = λ moment from datagram. Granted (record { stanza = 1; stamp = moment; seconds = 30; ip = source; pair = pair; opening = open_words; closing = close_words });
+  room = record { limit = 4; fits = λ ledger change. true };
 }
 
 -- the record of this number, made at this moment
 abbrev pub record_at : ℕ → List ℕ → ℕ → ℕ → OpenRecord
-record_at id datagram moment due = record { id = id; digest = record { 0 = datagram }; moment = moment; due = due; ip = source; pair = pair; close = close_words }
+record_at id datagram moment due = record { id = id; digest = record { 0 = datagram }; stamp = moment; moment = moment; due = due; ip = source; pair = pair; close = close_words }
 
 abbrev pub first : OpenRecord
 first = record_at 1 (codes "first") 1700000000 1700000030

@@ -1,5 +1,5 @@
 -- What a run ends with: its limits, and what lets it end for want of memory.
-use Rattle.std.specs.Prelude.{◌≡◌, ◌⊎◌, ℕ, ◌≤◌, Bool, true, false, List, [], ◌∷◌, ◌++◌, length, None, IsSomeAnd}
+use Rattle.std.specs.Prelude.{◌≡◌, ◌⊎◌, ℕ, ◌≤◌, Bool, true, false, List, ◌∷◌, ◌++◌, length, None, IsSomeAnd}
 use Rattle.std.specs.Option.{option_map_or}
 use Rattle.std.specs.List.{count_by, Contains}
 use Rattle.fk_base.specs.declared.address.Ip4.{Ip4}
@@ -10,8 +10,8 @@ use Rattle.fk_trace.specs.Decision.{Input, Rules}
 use Rattle.fk_trace.specs.Decision.Input.{Quiet, Datagram}
 use Rattle.fk_trace.specs.Attempts.{IsPollOf}
 use Rattle.fk_run.specs.declared.limits.Limits.{Limits}
-use Rattle.fk_run.specs.Place.{Place, entry}
-use Rattle.fk_run.specs.Turn.{TakenTurn, IsDueIdle, after_turn, after_turns}
+use Rattle.fk_run.specs.Place.{Place}
+use Rattle.fk_run.specs.Turn.{TakenTurn, IsDueIdle, after_turn}
 use Rattle.fk_run.specs.Planned.{planned_turn}
 use Rattle.fk_run.specs.Run.{Run, Ending}
 use Rattle.fk_run.specs.Run.Ending.{AtLimit, AtDiskFault, AtWantOfMemory}

@@ -67,10 +67,10 @@ or_false true = refl
 or_false false = refl
 
 -- the records that none of these numbers closes
-abbrev open_of : List ℕ → List OpenRecord → List OpenRecord
+abbrev pub open_of : List ℕ → List OpenRecord → List OpenRecord
 open_of ids items = filter (λ item. not (list_any (λ d. eqb d item.id) ids)) items
 
-live-of : (ledger : List Change) (ids : List ℕ) (items : List OpenRecord) → dones ledger ≡ ids → opens ledger ≡ items → live ledger ≡ open_of ids items
+pub live-of : (ledger : List Change) (ids : List ℕ) (items : List OpenRecord) → dones ledger ≡ ids → opens ledger ≡ items → live ledger ≡ open_of ids items
 live-of ledger ids items closed opened = ap (λ others. open_of others (opens ledger)) closed ∙ ap (open_of ids) opened
 
 -- a Done takes its record out of the live ones

@@ -1,6 +1,6 @@
 -- What a run makes over a ledger: records that are numbered on, of digests that the ledger has not seen and of keys that it doesn't bar,
 -- and Dones of which something else is asked.
-use Rattle.std.proofs.Common.{◌≡◌, ℕ, ◌+◌, ◌≤◌, List, [], ◌∷◌, ◌++◌, length, map, refl, sym, ap, ◌∙◌, subst, arith, inl, inr}
+use Rattle.std.proofs.Common.{◌≡◌, ℕ, ◌+◌, ◌≤◌, List, [], ◌∷◌, ◌++◌, length, map, refl, sym, ap, ◌∙◌, subst, arith, inl, inr, append-nil, append_assoc}
 use Rattle.std.specs.List.{AllPairs, Contains, range_with_len}
 use Rattle.std.proofs.lemmas.List.Elements.{Contains-append_left, Contains-append_right}
 use Rattle.std.proofs.lemmas.List.Kept.{AllPairs-cons}
@@ -28,6 +28,23 @@ abbrev pub Whatever : List Change → ℕ → Type 0
 Whatever ledger id = Unit {0}
 
 module _ (MayEnd : List Change → ℕ → Type 0) where
+  -- they stand behind the ledger
+  pub made-after : (ledger changes : List Change) → AreMade MayEnd ledger changes → after ledger changes ≡ ledger ++ changes
+  made-after ledger [] h = sym (append-nil ledger)
+  made-after ledger (Open item ∷ changes) h = made-after (ledger ++ Open item ∷ []) changes h.1 ∙ append_assoc ledger (Open item ∷ []) changes
+  made-after ledger (Done id ∷ changes) h = made-after (ledger ++ Done id ∷ []) changes h.1 ∙ append_assoc ledger (Done id ∷ []) changes
+  made-after ledger (Settled id stamp digest ∷ changes) h = absurd h
+  made-after ledger (Floor floor next ∷ changes) h = absurd h
+
+  -- whatever is asked of a Done, what is more than that may be asked
+  pub made-wider : (Other : List Change → ℕ → Type 0) → ((ledger : List Change) (id : ℕ) → MayEnd ledger id → Other ledger id) → (ledger changes : List Change) → AreMade MayEnd ledger changes
+      → AreMade Other ledger changes
+  made-wider Other wider ledger [] h = tt
+  made-wider Other wider ledger (Open item ∷ changes) h = (h.0, made-wider Other wider (ledger ++ Open item ∷ []) changes h.1)
+  made-wider Other wider ledger (Done id ∷ changes) h = (wider ledger id h.0, made-wider Other wider (ledger ++ Done id ∷ []) changes h.1)
+  made-wider Other wider ledger (Settled id stamp digest ∷ changes) h = absurd h
+  made-wider Other wider ledger (Floor floor next ∷ changes) h = absurd h
+
   pub made-joined : (ledger a b : List Change) → AreMade MayEnd ledger a → AreMade MayEnd (after ledger a) b → AreMade MayEnd ledger (a ++ b)
   made-joined ledger [] b h g = g
   made-joined ledger (Open item ∷ a) b h g = (h.0, made-joined (after_one ledger (Open item)) a b h.1 g)
@@ -65,6 +82,11 @@ module _ (MayEnd : List Change → ℕ → Type 0) where
       (rest.0 ∙ ap (λ (n : ℕ). range_with_len n (length (opens changes))) next, let there = rest.1 in omega arith)
   made-numbered ledger (Settled id stamp digest ∷ changes) h = absurd h
   made-numbered ledger (Floor floor next ∷ changes) h = absurd h
+
+-- any Dones may be made
+pub made-dones : (ledger : List Change) (ids : List ℕ) → AreMade Whatever ledger (map Done ids)
+made-dones ledger [] = tt
+made-dones ledger (id ∷ ids) = (tt, made-dones (ledger ++ Done id ∷ []) ids)
 
 -- what bars a key bars each of the same digest with the same stamp or an earlier one
 pub bars-earlier : (state : State) (key other : Key) → Bars state key → other.digest ≡ key.digest → other.stamp ≤ key.stamp → Bars state other
