@@ -1,25 +1,24 @@
 -- What holds of every history: each run keeps the headline, no key is attempted twice, what is on the areas stays owed, and what each
 -- run leaves is a ledger.
-use Rattle.std.proofs.Common.{◌≡◌, ◌⊎◌, ℕ, zero, suc, ◌+◌, ◌≤◌, List, [], ◌∷◌, ◌++◌, length, map, refl, sym, ap, ◌∙◌, subst, arith, inl, inr, append_assoc}
-use Rattle.std.specs.List.{AllZip, AllPairs, AllByRecursion, Contains, flat_map, range_with_len}
+use Rattle.std.proofs.Common.{◌≡◌, ◌⊎◌, ℕ, List, [], ◌∷◌, ◌++◌, map, refl, sym, ap, ◌∙◌, subst, inl, inr, append_assoc}
+use Rattle.std.specs.List.{AllZip, AllPairs, AllByRecursion, Contains, flat_map}
 use Rattle.std.proofs.lemmas.List.{map-append}
-use Rattle.std.proofs.lemmas.List.Elements.{Contains-append_left, Contains-append_right, Contains-append_cases}
+use Rattle.std.proofs.lemmas.List.Elements.{Contains-append_left}
 use Rattle.fk_trace.specs.declared.change.OpenRecord.{OpenRecord}
 use Rattle.fk_trace.specs.declared.change.Change.{Change}
 use Rattle.fk_trace.specs.Trace.{Item}
-use Rattle.fk_trace.specs.Ledger.{Key, key_of, State, opens, dones, live, next_id, after, state_of, Bars, IsLater, IsLedger}
+use Rattle.fk_trace.specs.Ledger.{Key, key_of, State, opens, live, after, state_of, Bars, IsLater, IsLedger}
 use Rattle.fk_trace.specs.Settled.{EndedCleanly}
-use Rattle.fk_trace.proofs.Lists.{Contains-head, Contains-tail, Contains-cases, Contains-map, Contains-unmap}
+use Rattle.fk_trace.proofs.Lists.{Contains-head, Contains-tail, Contains-map, Contains-unmap}
 use Rattle.fk_trace.proofs.Splits.{Contains-recursion, recursion-behind, recursion-joined, AllPairs-front}
-use Rattle.fk_trace.proofs.Ledgers.{opens-append, dones-append}
-use Rattle.fk_trace.proofs.Made.{AreMade, Whatever, made-after, made-apart, made-fresh, made-barred, made-bars}
-use Rattle.fk_run.specs.Run.{trace_of, changes_of}
+use Rattle.fk_trace.proofs.Made.{AreMade, IsLive, Whatever, made-apart, made-fresh, made-barred, made-bars}
+use Rattle.fk_run.specs.Run.{trace_of}
 use Rattle.fk_run.specs.Headline.{OpensOnce, opens_attempted}
 use Rattle.fk_run.specs.Left.{items_behind, crashed}
 use Rattle.fk_run.specs.History.{Visit, IsVisit, IsHistory, FollowOn, left_in_the_end, trace_left, changes_left, ledger_left, OpensByGrantOnly, StartsAllThatIsOwed, ClosesAtFirstDue, AttemptsBelongTo, OpensOnceEver, IsOn, EndedIn, StaysOwed}
 use Rattle.fk_run.proofs.Cutting.{split-at}
-use Rattle.fk_run.proofs.Ledgers.{settled-below, live-unless_settled, live-recorded}
-use Rattle.fk_run.proofs.Leaves.{leaves-ledger}
+use Rattle.fk_run.proofs.Ledgers.{live-made, opened-made}
+use Rattle.fk_run.proofs.Leaves.{leaves-ledger, leaves-made}
 use Rattle.fk_run.proofs.Owed.{starts-owed, starts-first_due}
 use Rattle.fk_run.proofs.Runs.{opens-run, once-run, made-run}
 use Rattle.fk_run.proofs.Stays.{Stay, IsStay, StaysFollow, all_attempted, stays-fresh, stays-apart}
@@ -34,14 +33,6 @@ split-map f (x ∷ xs) (y ∷ front) back e =
     let items = rest.2 in
     let more = rest.3 in
     (x ∷ rest.0, rest.1, cc, cc)
-
-in-range : (a n x : ℕ) → Contains (range_with_len a n) x → a ≤ x
-in-range a zero x m = absurd (omega (arith, m.1))
-in-range a (suc n) x m =
-    elim (Contains-cases a (range_with_len (a + 1) n) x m) [
-      | inl same ↦ omega (arith, same)
-      | inr more ↦ let up = in-range (a + 1) n x more in omega arith
-    ]
 
 -- each record belongs to its own number
 belong-each : (changes : List Change) (items : List OpenRecord) → ((item : OpenRecord) → Contains items item → Contains (opens changes) item)
@@ -95,7 +86,7 @@ module _ (visit : Visit) (is : IsVisit visit) where
       (λ item m. subst (λ (items : List OpenRecord). Contains items item) (sym attempted.parts) (Contains-append_left attempted.items attempted.others item m)))
 
   -- what was left may be made over what was found
-  made-left : AreMade Whatever visit.run.ledger (changes_left visit)
+  pub made-left : AreMade Whatever visit.run.ledger (changes_left visit)
   made-left = subst (λ (changes : List Change). AreMade Whatever visit.run.ledger changes) is.left.changes (made-run (crashed visit.run is.left.turns) is.left.legal)
 
   -- the keys of all records that were left, in two parts
@@ -126,42 +117,25 @@ module _ (visit : Visit) (is : IsVisit visit) where
         kept = λ key barred. made-bars Whatever visit.run.ledger (changes_left visit) made-left key barred;
       }
 
-  left-behind : ledger_left visit ≡ visit.run.ledger ++ changes_left visit
-  left-behind = made-after Whatever visit.run.ledger (changes_left visit) made-left
+  -- and each Done of it is of a record that is live there
+  ends-left : AreMade IsLive visit.run.ledger (changes_left visit)
+  ends-left = subst (λ (changes : List Change). AreMade IsLive visit.run.ledger changes) is.left.changes (leaves-made (crashed visit.run is.left.turns) is.left.legal is.ledger)
 
-  -- a record of the ledger that was left is live there, unless the run settled it
-  lives-left : (item : OpenRecord) → Contains (opens (ledger_left visit)) item → (Contains (dones visit.run.ledger) item.id → ⊥)
-      → Contains (live (ledger_left visit)) item ⊎ EndedCleanly [] (trace_left visit) item.id
-  lives-left item m unsettled =
-      elim (live-unless_settled (ledger_left visit) item m) [
-        | inl lives ↦ inl lives
-        | inr settled ↦ elim (Contains-append_cases (dones visit.run.ledger) (dones (changes_left visit)) item.id (subst (λ (ids : List ℕ). Contains ids item.id) (ap dones left-behind ∙ dones-append visit.run.ledger (changes_left visit)) settled)) [
-          | inl before ↦ absurd (unsettled before)
-          | inr here ↦ inr (is.left.settled item.id here)
-        ]
-      ]
-
-  pub opens-all : opens (ledger_left visit) ≡ opens visit.run.ledger ++ opens (changes_left visit)
-  opens-all = ap opens left-behind ∙ opens-append visit.run.ledger (changes_left visit)
-
+  -- a record that was live when the run began, or that it made, is live in what was left, unless the run settled it
   pub stays-live : (item : OpenRecord) → Contains (live visit.run.ledger) item → Contains (live (ledger_left visit)) item ⊎ EndedCleanly [] (trace_left visit) item.id
   stays-live item m =
-      let recorded = live-recorded visit.run.ledger item m in
-      lives-left item (subst (λ (items : List OpenRecord). Contains items item) (sym opens-all) (Contains-append_left (opens visit.run.ledger) (opens (changes_left visit)) item recorded.0)) recorded.1
-
-  -- the records that the run made are numbered from the next of what it found
-  new-left : (item : OpenRecord) → Contains (opens (changes_left visit)) item → next_id visit.run.ledger ≤ item.id
-  new-left item m =
-      let made : List Change = changes_of (crashed visit.run is.left.turns) in
-      let there : Contains (map (λ item. item.id) (opens made)) item.id =
-      subst (λ (changes : List Change). Contains (map (λ item. item.id) (opens changes)) item.id) (sym is.left.changes) (Contains-map (λ (x : OpenRecord). x.id) (opens (changes_left visit)) item m) in
-      in-range (next_id visit.run.ledger) (length (opens made)) item.id (subst (λ (ids : List ℕ). Contains ids item.id) once-left.numbered there)
+      elim (live-made IsLive visit.run.ledger (changes_left visit) ends-left item m) [
+        | inl lives ↦ inl lives
+        | inr settled ↦ inr (is.left.settled item.id settled)
+      ]
 
   pub owed-left : (item : OpenRecord) → IsOn visit item → Contains (live (ledger_left visit)) item ⊎ EndedCleanly [] (trace_left visit) item.id
   owed-left item (inl lives) = stays-live item lives
   owed-left item (inr made) =
-      lives-left item (subst (λ (items : List OpenRecord). Contains items item) (sym opens-all) (Contains-append_right (opens visit.run.ledger) (opens (changes_left visit)) item made))
-      (λ settled. let low = settled-below visit.run.ledger is.ledger item.id settled in let new = new-left item made in omega arith)
+      elim (opened-made visit.run.ledger (changes_left visit) is.ledger ends-left item made) [
+        | inl lives ↦ inl lives
+        | inr settled ↦ inr (is.left.settled item.id settled)
+      ]
 
 -- the records and the stays of a history
 abbrev attempts_of : (history : List Visit) → AllByRecursion IsVisit history → List (List OpenRecord)

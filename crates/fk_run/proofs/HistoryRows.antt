@@ -26,8 +26,9 @@ use Rattle.fk_run.specs.Run.Ending.{AtEnd, AtDiskFault}
 use Rattle.fk_run.specs.Legal.{LegalTurns}
 use Rattle.fk_run.specs.Headline.{opens_attempted}
 use Rattle.fk_run.specs.History.{Visit, IsVisit, IsHistory, trace_left, changes_left, ledger_left, AttemptsBelongTo, OpensOnceEver}
-use Rattle.fk_run.proofs.Ledgers.{opens-one, open-below}
-use Rattle.fk_run.proofs.Histories.{once-history, visit-in, leaves-left, opens-all}
+use Rattle.fk_run.proofs.Ledgers.{made-above, made-one}
+use Rattle.fk_run.proofs.Histories.{once-history, visit-in, made-left}
+use Rattle.fk_trace.proofs.Made.{Whatever}
 use Rattle.fk_run.proofs.Pairs.{pair-across, pairs-behind}
 use Rattle.fk_run.proofs.RowParts.{only, polls-none, polls-one, closes-one, none-live, not-due}
 use Rattle.fk_run.proofs.WorkedRows.{open_words, rules, record_at, first, found, item_at, asks, quiet-turn, asked-turn, reached, closes, open_child, close_child}
@@ -246,9 +247,7 @@ no_attempt_without_its_record start earlier next later is id m lacks =
     let visit : IsVisit earlier = is.visits.0 in
     let left : Contains (map (λ item. item.id) (opens (changes_left earlier))) id = visit.left.opened id m in
     let made = Contains-unmap (λ (item : OpenRecord). item.id) (opens (changes_left earlier)) id left in
-    let there : Contains (opens (ledger_left earlier)) made.0 =
-    subst (λ (items : List OpenRecord). Contains items made.0) (sym (opens-all earlier visit)) (Contains-append_right (opens earlier.run.ledger) (opens (changes_left earlier)) made.0 made.1) in
-    let below = open-below (ledger_left earlier) made.0 there in
+    let below = (made-above Whatever earlier.run.ledger (changes_left earlier) (made-left earlier visit) made.0 made.1).1 in
     let number = made.2 in
     let same : next_id next.run.ledger ≡ next_id (ledger_left earlier) = ap (λ (state : State). state.next) is.follow.1.0 in
     absurd (omega arith)
@@ -290,9 +289,7 @@ module _ {A B : Type 0} (R : A → B → Type 0) where
 attempted-key : (visit : Visit) (items : List OpenRecord) (item : OpenRecord) → IsVisit visit → AttemptsBelongTo visit items → IsAttemptedIn visit item → Contains (map key_of items) (key_of item)
 attempted-key visit items item is belong at =
     let found = second_at_zip (λ (id : ℕ) (x : OpenRecord). (x.id ≡ id) × Contains (opens (changes_left visit)) x) (opens_attempted (trace_left visit)) items item.id belong at.attempted in
-    let all : (x : OpenRecord) → Contains (opens (changes_left visit)) x → Contains (opens (ledger_left visit)) x =
-    λ x m. subst (λ (xs : List OpenRecord). Contains xs x) (sym (opens-all visit is)) (Contains-append_right (opens visit.run.ledger) (opens (changes_left visit)) x m) in
-    let same : found.0 ≡ item = opens-one (ledger_left visit) (leaves-left visit is) found.0 item (all found.0 found.2.1) (all item at.recorded) found.2.0 in
+    let same : found.0 ≡ item = made-one Whatever visit.run.ledger (changes_left visit) (made-left visit is) found.0 item found.2.1 at.recorded found.2.0 in
     subst (λ (x : OpenRecord). Contains (map key_of items) (key_of x)) same (Contains-map key_of items found.0 found.1)
 
 keys-parts : (before : List (List OpenRecord)) (items : List OpenRecord) (behind : List (List OpenRecord))

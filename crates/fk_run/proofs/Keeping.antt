@@ -1,6 +1,6 @@
 -- What holds at each place of a legal run over a ledger: its changes are a ledger, each close that runs is of a live record, and
 -- at most one close of a record runs.
-use Rattle.std.proofs.Common.{◌≡◌, ◌≢◌, ◌⊎◌, ℕ, suc, ◌<◌, true, false, not, ◌==◌, List, [], ◌∷◌, ◌++◌, map, Option, Some, None, refl, sym, ap, ◌∙◌, subst, arith, inl, inr, append_assoc, append-nil}
+use Rattle.std.proofs.Common.{◌≡◌, ◌≢◌, ◌⊎◌, ℕ, suc, ◌<◌, true, false, not, ◌==◌, List, [], ◌∷◌, ◌++◌, map, Option, Some, None, refl, sym, ap, ◌∙◌, subst, arith, inl, inr, append-nil}
 use Rattle.std.specs.List.{filter, cons_option, AllZip, AllPairs, Contains}
 use Rattle.std.proofs.lemmas.List.Elements.{Contains-push_cases, Contains-append_left, filter_passes, All-contains}
 use Rattle.std.proofs.lemmas.Bool.{eqb-true, eq-eqb, false_from_ne_true}
@@ -8,20 +8,21 @@ use Rattle.fk_base.specs.declared.purpose.Purpose.{Purpose}
 use Rattle.fk_base.specs.declared.purpose.Purpose.TheVariants.{Open, Close}
 use Rattle.fk_trace.specs.declared.change.OpenRecord.{OpenRecord}
 use Rattle.fk_trace.specs.declared.change.Change.{Change}
-use Rattle.fk_trace.specs.declared.change.Change.TheVariants.{Open as OpenChange, Done}
+use Rattle.fk_trace.specs.declared.change.Change.TheVariants.{Done}
 use Rattle.fk_trace.specs.Trace.{Event, Item, Child, children, running, still_running, begun_by, past_after}
 use Rattle.fk_trace.specs.Trace.Event.{Turn, Began, StartFailed, Ended, Runs, PollFailed}
-use Rattle.fk_trace.specs.Ledger.{live, after, IsSeen, IsLedger}
+use Rattle.fk_trace.specs.Ledger.{dones, live, after, IsLedger}
 use Rattle.fk_trace.specs.Idle.{child_numbered}
-use Rattle.fk_trace.specs.Decision.{Rules, FeedTurn, Answer, recorded_by, answer}
+use Rattle.fk_trace.specs.Decision.{Answer}
 use Rattle.fk_trace.specs.Decision.Answer.{Nothing, Refuses, Opens}
 use Rattle.fk_trace.specs.Settled.{settled_at, settled_in, settlements}
 use Rattle.fk_trace.specs.Attempts.{IsPollOf, IsAttempt, AttemptsThatOpen, Precedes}
 use Rattle.fk_trace.proofs.Lists.{Contains-head, Contains-tail, Contains-filter, Contains-map, Contains-unmap, find-only, same_by_key}
 use Rattle.fk_trace.proofs.Running.{running-children}
 use Rattle.fk_trace.proofs.Settled.{settled-event}
-use Rattle.fk_trace.proofs.Grants.{granted-opens, making-made}
-use Rattle.fk_run.proofs.Ledgers.{Contains-kept, ledger-push, made-follow, live-one, live-kept_done, live-kept_open}
+use Rattle.fk_trace.proofs.Ledgers.{after-append, after-dones}
+use Rattle.fk_trace.proofs.Made.{AreMade, IsLive, made-joined}
+use Rattle.fk_run.proofs.Ledgers.{Contains-kept, ledger-push, ledger-made, live-made, live-one, live-kept_done}
 
 abbrev ids_of : List OpenRecord → List ℕ
 ids_of items = map (λ item. item.id) items
@@ -71,6 +72,21 @@ keeps-ended cs ledger child number (Some settled) keeps m same closes =
 keeps-same : (cs : List Child) (ledger : List Change) → Keeps cs ledger → Keeps (cs ++ []) (ledger ++ [])
 keeps-same cs ledger keeps = subst (λ (xs : List Child). Keeps xs (ledger ++ [])) (sym (append-nil cs)) (subst (λ (all : List Change). Keeps cs all) (sym (append-nil ledger)) keeps)
 
+-- what a poll settles is live
+poll-closes : (past : List Item) (child : Child) (event : Event) → IsNumbered (children past) → Contains (running past) child → IsPollOf child event → (id : ℕ) → settled_at past event ≡ Some id → child.purpose ≡ Close id
+poll-closes past child (Turn number) numbered m h id e = absurd h
+poll-closes past child (Began number purpose words) numbered m h id e = absurd h
+poll-closes past child (StartFailed purpose words) numbered m h id e = absurd h
+poll-closes past child (Ended number good) numbered m h id e =
+    let found : child_numbered number past ≡ Some child = ap (λ (n : ℕ). child_numbered n past) h ∙ numbered_one past numbered child m in
+    let at = settled-event past (Ended number good) id e in
+    let n : at.0 ≡ number = let is = at.1 in cc in
+    let same : Some child ≡ Some (record { number = at.0; purpose = Close id }) = sym found ∙ ap (λ (k : ℕ). child_numbered k past) (sym n) ∙ at.2 in
+    let is : child ≡ record { number = at.0; purpose = Close id } = cc in
+    ap (λ (c : Child). c.purpose) is
+poll-closes past child (Runs number) numbered m h id e = absurd cc
+poll-closes past child (PollFailed number) numbered m h id e = absurd cc
+
 -- a poll settles at most the record of the close that it ends
 keeps-poll : (past : List Item) (ledger : List Change) (child : Child) (event : Event) → IsNumbered (children past) → Keeps (running past) ledger → Contains (running past) child → IsPollOf child event
     → Keeps (still_running event (running past) ++ begun_by event) (ledger ++ map Done (cons_option (settled_at past event) []))
@@ -78,18 +94,15 @@ keeps-poll past ledger child (Turn number) numbered keeps m h = absurd h
 keeps-poll past ledger child (Began number purpose words) numbered keeps m h = absurd h
 keeps-poll past ledger child (StartFailed purpose words) numbered keeps m h = absurd h
 keeps-poll past ledger child (Ended number good) numbered keeps m h =
-    let found : child_numbered number past ≡ Some child = ap (λ (n : ℕ). child_numbered n past) h ∙ numbered_one past numbered child m in
-    let closes : (id : ℕ) → settled_at past (Ended number good) ≡ Some id → child.purpose ≡ Close id =
-    λ id e.
-    let at = settled-event past (Ended number good) id e in
-    let n : at.0 ≡ number = let is = at.1 in cc in
-    let same : Some child ≡ Some (record { number = at.0; purpose = Close id }) = sym found ∙ ap (λ (k : ℕ). child_numbered k past) (sym n) ∙ at.2 in
-    let is : child ≡ record { number = at.0; purpose = Close id } = cc in
-    ap (λ (c : Child). c.purpose) is in
+    let closes = poll-closes past child (Ended number good) numbered m h in
     subst (λ (cs : List Child). Keeps cs (ledger ++ map Done (cons_option (settled_at past (Ended number good)) []))) (sym (append-nil (filter (λ (c : Child). not (c.number == number)) (running past))))
     (keeps-ended (running past) ledger child number (settled_at past (Ended number good)) keeps m h closes)
 keeps-poll past ledger child (Runs number) numbered keeps m h = keeps-same (running past) ledger keeps
 keeps-poll past ledger child (PollFailed number) numbered keeps m h = keeps-same (running past) ledger keeps
+
+settled-made : (ledger : List Change) (settled : Option ℕ) → ((id : ℕ) → settled ≡ Some id → IsLive ledger id) → AreMade IsLive ledger (map Done (cons_option settled []))
+settled-made ledger None lives = tt
+settled-made ledger (Some id) lives = (lives id refl, tt)
 
 poll-begins_none : (child : Child) (event : Event) → IsPollOf child event → begun_by event ≡ []
 poll-begins_none child (Turn number) h = refl
@@ -124,39 +137,49 @@ rising-head child order rising other m =
 rising-tail : (child : Child) (order : List Child) → IsNumbered (child ∷ order) → IsNumbered order
 rising-tail child order rising = λ i j d l k. rising (suc i) (suc j) d (omega arith) (omega arith)
 
+-- what is made over a ledger, and the children that run behind it
+pub record KeepsOver (cs : List Child) (ledger changes : List Change) : Type 0 where
+  pub made : AreMade IsLive ledger changes
+  pub keeps : Keeps cs (after ledger changes)
+
 pub keeps-polls : (past : List Item) (ledger : List Change) (order : List Child) (polled : List Item) → IsNumbered (children past) → Keeps (running past) ledger
     → AllZip (λ child item. IsPollOf child item.event) order polled → IsNumbered order → ((child : Child) → Contains order child → Contains (running past) child)
-    → Keeps (running (past_after past polled)) (ledger ++ settlements past polled)
-keeps-polls past ledger [] [] numbered keeps polls rising each = subst (λ (all : List Change). Keeps (running past) all) (sym (append-nil ledger)) keeps
+    → KeepsOver (running (past_after past polled)) ledger (settlements past polled)
+keeps-polls past ledger [] [] numbered keeps polls rising each = record { made = tt; keeps = keeps }
 keeps-polls past ledger [] (item ∷ polled) numbered keeps polls rising each = absurd polls
 keeps-polls past ledger (child ∷ order) [] numbered keeps polls rising each = absurd polls
 keeps-polls past ledger (child ∷ order) (item ∷ polled) numbered keeps polls rising each =
-    let first : List Change = map Done (cons_option (settled_at past item.event) []) in
+    let settled : Option ℕ = settled_at past item.event in
+    let first : List Change = map Done (cons_option settled []) in
+    let behind : after ledger first ≡ ledger ++ first = after-dones ledger (cons_option settled []) in
+    let here : Contains (running past) child = each child (Contains-head child order) in
     let still : IsNumbered (children (item ∷ past)) =
     subst IsNumbered (sym (ap (λ (begun : List Child). children past ++ begun) (poll-begins_none child item.event polls.0) ∙ append-nil (children past))) numbered in
-    let rest = keeps-polls (item ∷ past) (ledger ++ first) order polled still (keeps-poll past ledger child item.event numbered keeps (each child (Contains-head child order)) polls.0) polls.1
-    (rising-tail child order rising)
+    let made : AreMade IsLive ledger first =
+    settled-made ledger settled (λ id e. keeps.held child id here (poll-closes past child item.event numbered here polls.0 id e)) in
+    let rest = keeps-polls (item ∷ past) (after ledger first) order polled still
+    (subst (λ (all : List Change). Keeps (running (item ∷ past)) all) (sym behind) (keeps-poll past ledger child item.event numbered keeps here polls.0)) polls.1 (rising-tail child order rising)
     (λ other m. poll-leaves child other item.event (running past) polls.0 (rising-head child order rising other m) (each other (Contains-tail child order other m))) in
-    subst (λ (all : List Change). Keeps (running (past_after (item ∷ past) polled)) all)
-    (append_assoc ledger first (settlements (item ∷ past) polled) ∙ ap (λ (changes : List Change). ledger ++ changes) (sym (map_cons (settled_at past item.event) (settled_in (item ∷ past) polled)))) rest
-
--- what is granted is recorded
-pub keeps-recorded : (cs : List Child) (ledger : List Change) (rules : Rules) (turn : FeedTurn) (a : Answer) → answer rules ledger turn ≡ a → Keeps cs ledger → Keeps cs (after ledger (recorded_by a))
-keeps-recorded cs ledger rules turn Nothing e keeps = keeps
-keeps-recorded cs ledger rules turn (Refuses why) e keeps = keeps
-keeps-recorded cs ledger rules turn (Opens item permit making) e keeps =
-    let granted = granted-opens item permit making rules ledger turn e in
-    let unseen : IsSeen item.digest.0 ledger → ⊥ =
-    subst (λ (digest : List ℕ). IsSeen digest ledger → ⊥) (sym (ap (λ (r : OpenRecord). r.digest.0) granted.recorded)) granted.fresh in
-    subst (λ (changes : List Change). Keeps cs (after ledger changes)) (sym (making-made rules ledger item making granted.room))
+    let later : List Change = settlements (item ∷ past) polled in
+    let all : first ++ later ≡ settlements past (item ∷ polled) = sym (map_cons settled (settled_in (item ∷ past) polled)) in
+    subst (λ (changes : List Change). KeepsOver (running (past_after (item ∷ past) polled)) ledger changes) all
     (record {
-      is_ledger = ledger-push ledger (OpenChange item) keeps.is_ledger (made-follow ledger item (ap (λ (r : OpenRecord). r.id) granted.recorded) unseen);
-      held = λ child id m p.
-          let at = Contains-unmap (λ (r : OpenRecord). r.id) (live ledger) id (keeps.held child id m p) in
-          subst (λ (n : ℕ). Contains (ids_of (live (ledger ++ OpenChange item ∷ []))) n) at.2
-          (Contains-map (λ (r : OpenRecord). r.id) (live (ledger ++ OpenChange item ∷ [])) at.0 (live-kept_open ledger item at.0 at.1));
-      one = keeps.one;
+      made = made-joined IsLive ledger first later made rest.made;
+      keeps = subst (λ (there : List Change). Keeps (running (past_after (item ∷ past) polled)) there) (sym (after-append ledger first later)) rest.keeps;
     })
+
+-- what is recorded settles nothing, so the closes that run are of live records still
+pub keeps-recorded : (cs : List Child) (ledger changes : List Change) → AreMade IsLive ledger changes → dones changes ≡ [] → Keeps cs ledger → Keeps cs (after ledger changes)
+keeps-recorded cs ledger changes made none keeps = record {
+  is_ledger = ledger-made ledger changes keeps.is_ledger made;
+  held = λ child id m p.
+      let at = Contains-unmap (λ (r : OpenRecord). r.id) (live ledger) id (keeps.held child id m p) in
+      elim (live-made IsLive ledger changes made at.0 at.1) [
+        | inl lives ↦ subst (λ (n : ℕ). Contains (ids_of (live (after ledger changes))) n) at.2 (Contains-map (λ (r : OpenRecord). r.id) (live (after ledger changes)) at.0 lives)
+        | inr settled ↦ absurd (let some = subst (λ (ids : List ℕ). Contains ids at.0.id) none settled in omega (arith, some.1))
+      ];
+  one = keeps.one;
+}
 
 -- a close may begin of a live record of which none runs
 keeps-attempt : (cs : List Child) (ledger : List Change) (purpose : Purpose) (words : List (List ℕ)) (event : Event) → IsAttempt purpose words event → Keeps cs ledger

@@ -1,15 +1,25 @@
 -- What a list of changes is that is a ledger, and what one more change leaves of its live records.
-use Rattle.std.proofs.Common.{◌≡◌, ◌≢◌, ◌⊎◌, ℕ, ◌+◌, ◌<◌, max, Bool, true, false, not, cond, eqb, List, [], ◌∷◌, ◌++◌, map, refl, sym, ap, ◌∙◌, subst, arith, inl, inr, append_assoc, append-nil}
-use Rattle.std.specs.List.{filter, list_any, Contains}
-use Rattle.std.proofs.lemmas.List.Elements.{Contains-append_left, Contains-push_cases, filter-append, filter_passes, All-contains}
-use Rattle.std.proofs.lemmas.Bool.{ne_eqb, eqb-true, eq-eqb}
+use Rattle.std.proofs.Common.{◌≡◌, ◌≢◌, ◌⊎◌, ℕ, zero, suc, ◌+◌, ◌<◌, ◌≤◌, Bool, true, false, not, cond, eqb, List, [], ◌∷◌, ◌++◌, length, map, Some, None, refl, sym, ap, ◌∙◌, subst, arith, inl, inr, append_assoc, append-nil}
+use Rattle.std.specs.Prelude.{nat_le}
+use Rattle.std.specs.List.{filter, cons_option, list_any, AllPairs, Contains, range_with_len}
+use Rattle.std.proofs.lemmas.List.Elements.{Contains-append_left, Contains-append_right, Contains-push_cases, filter-append, filter_map-append, filter_passes, All-contains}
+use Rattle.std.proofs.lemmas.List.Kept.{AllPairs-cons}
+use Rattle.std.proofs.lemmas.Bool.{ne_eqb, eqb-true, eq-eqb, cases_order}
 use Rattle.fk_trace.specs.declared.change.OpenRecord.{OpenRecord}
 use Rattle.fk_trace.specs.declared.change.Change.{Change}
 use Rattle.fk_trace.specs.declared.change.Change.TheVariants.{Open, Done, Settled, Floor}
-use Rattle.fk_trace.specs.Ledger.{opens, dones, is_open, live, numbers, next_from, next_id, after, IsSeen, MayFollow, IsLedgerFrom, IsLedger}
-use Rattle.fk_trace.proofs.Lists.{Contains-head, Contains-tail, Contains-cases, Contains-filter, Contains-map, Contains-unmap, All-by, list_any-at, list_any-from}
-use Rattle.fk_trace.proofs.Ledgers.{opens-append, dones-append, opens-push_done, opens-push_open, dones-push_open, dones-push_done, live-of, live-push_done, next_by-above, next_from-above, next_id-push}
-use Rattle.fk_trace.proofs.Made.{AreMade, IsLive, Whatever, made-after, made-front}
+use Rattle.fk_trace.specs.Ledger.{Key, opens, dones, is_open, live, seen, numbers, next_id, kept_by, after_one, after, IsNumber, IsSeen, MayFollow, IsLedgerFrom, IsLedger}
+use Rattle.fk_trace.proofs.Lists.{Contains-head, Contains-tail, Contains-cases, Contains-filter, Contains-map, Contains-unmap, All-by, list_any-at, list_any-from, same_by_key}
+use Rattle.fk_trace.proofs.Ledgers.{opens-append, dones-append, opens-push_done, opens-push_open, dones-push_open, dones-push_done, live-of, live-push_done, live-push_open, next_by-above, next_id-push, next_id-push_open, none_at_bound, number-below, open-number, kept_in, numbers-kept, seen-kept, dones-kept, live-rise, next_id-rise}
+use Rattle.fk_trace.proofs.Made.{AreMadeFrom, AreMade, IsLive, made-numbered}
+
+-- two numbers are one or differ
+cases_eq : (a b : ℕ) → (a ≡ b) ⊎ (a ≢ b)
+cases_eq a b =
+    elim (cases_order a b) [
+      | inl e ↦ inl e
+      | inr o ↦ inr (λ e. elim o [ inl lt ↦ absurd (omega arith) | inr lt ↦ absurd (omega arith) ])
+    ]
 
 -- what the test gives true for stays in a filter
 pub Contains-kept : {X : Type 0} (q : X → Bool) (xs : List X) (x : X) → q x ≡ true → Contains xs x → Contains (filter q xs) x
@@ -34,33 +44,6 @@ ledger-front before (change ∷ a) b h = (h.0, ledger-front (before ++ change �
 
 pub ledger-push : (ledger : List Change) (change : Change) → IsLedger ledger → MayFollow ledger change → IsLedger (ledger ++ change ∷ [])
 ledger-push ledger change is may = ledger-joined [] ledger (change ∷ []) is (may, tt)
-
--- the numbers that a ledger has are below the next
-number-below : (next : ℕ) (changes : List Change) (id : ℕ) → Contains (numbers changes) id → id < next_from next changes
-number-below next [] id m = absurd (omega (arith, m.1))
-number-below next (Open item ∷ changes) id m =
-    elim (Contains-cases item.id (numbers changes) id m) [
-      | inl e ↦ let up = next_from-above (max next (item.id + 1)) changes in grind arith
-      | inr n ↦ number-below (max next (item.id + 1)) changes id n
-    ]
-number-below next (Done other ∷ changes) id m = number-below next changes id m
-number-below next (Settled other stamp digest ∷ changes) id m =
-    elim (Contains-cases other (numbers changes) id m) [
-      | inl e ↦ let up = next_from-above (max next (other + 1)) changes in grind arith
-      | inr n ↦ number-below (max next (other + 1)) changes id n
-    ]
-number-below next (Floor floor first ∷ changes) id m = number-below (max next first) changes id m
-
-pub open-number : (changes : List Change) (item : OpenRecord) → Contains (opens changes) item → Contains (numbers changes) item.id
-open-number [] item m = absurd (omega (arith, m.1))
-open-number (Open other ∷ changes) item m =
-    elim (Contains-cases other (opens changes) item m) [
-      | inl e ↦ subst (λ (r : OpenRecord). Contains (other.id ∷ numbers changes) r.id) e (Contains-head other.id (numbers changes))
-      | inr n ↦ Contains-tail other.id (numbers changes) item.id (open-number changes item n)
-    ]
-open-number (Done id ∷ changes) item m = open-number changes item m
-open-number (Settled id stamp digest ∷ changes) item m = Contains-tail id (numbers changes) item.id (open-number changes item m)
-open-number (Floor floor next ∷ changes) item m = open-number changes item m
 
 pub open-below : (ledger : List Change) (item : OpenRecord) → Contains (opens ledger) item → item.id < next_id ledger
 open-below ledger item m = number-below 1 ledger item.id (open-number ledger item m)
@@ -112,7 +95,7 @@ live-below ledger id m =
     omega arith
 
 -- what is settled was recorded, so its number is below the next
-abbrev AreBelow : List Change → Type 0
+abbrev pub AreBelow : List Change → Type 0
 AreBelow ledger = (id : ℕ) → Contains (dones ledger) id → id < next_id ledger
 
 below-push : (ledger : List Change) (change : Change) → AreBelow ledger → MayFollow ledger change → AreBelow (ledger ++ change ∷ [])
@@ -156,19 +139,72 @@ made-follow ledger item new fresh = (
   fresh,
 )
 
--- and leaves a ledger
-pub ledger-made : (ledger changes : List Change) → IsLedger ledger → AreMade IsLive ledger changes → IsLedger (after ledger changes)
-ledger-made ledger [] is h = is
-ledger-made ledger (Open item ∷ changes) is h = ledger-made (ledger ++ Open item ∷ []) changes (ledger-push ledger (Open item) is (made-follow ledger item h.0.0 h.0.1)) h.1
-ledger-made ledger (Done id ∷ changes) is h = ledger-made (ledger ++ Done id ∷ []) changes (ledger-push ledger (Done id) is h.0) h.1
-ledger-made ledger (Settled id stamp digest ∷ changes) is h = absurd h
-ledger-made ledger (Floor floor next ∷ changes) is h = absurd h
+-- a ledger that begins anew is one
+kept-one : (floor : ℕ) (ledger before : List Change) (id first next : ℕ) (digest : List ℕ) → IsNumber before id → (IsSeen digest before → ⊥) → id < next
+    → IsNumber (Floor floor next ∷ kept_in floor ledger before) id × (IsSeen digest (Floor floor next ∷ kept_in floor ledger before) → ⊥)
+kept-one floor ledger before id first next digest number fresh low = (
+  record {
+    above = All-by (λ other. other < id) (numbers (kept_in floor ledger before)) (λ other m. All-contains (λ n. n < id) (numbers before) other number.above (numbers-kept floor ledger before other m));
+    next = inl low;
+  },
+  λ known.
+      let at = Contains-unmap (λ (key : Key). key.digest) (seen (kept_in floor ledger before)) digest known in
+      fresh (subst (λ (d : List ℕ). IsSeen d before) at.2 (Contains-map (λ (key : Key). key.digest) (seen before) at.0 (seen-kept floor ledger before at.0 at.1))),
+)
 
--- a front of what is made leaves a ledger where the whole does
-pub ledger-cut : (ledger a b : List Change) → AreMade Whatever ledger (a ++ b) → IsLedger (after ledger (a ++ b)) → IsLedger (after ledger a)
-ledger-cut ledger a b h is =
-    let all : after ledger (a ++ b) ≡ (ledger ++ a) ++ b = made-after Whatever ledger (a ++ b) h ∙ sym (append_assoc ledger a b) in
-    subst IsLedger (sym (made-after Whatever ledger a (made-front Whatever ledger a b h))) (ledger-front [] (ledger ++ a) b (subst IsLedger all is))
+module _ (floor next : ℕ) (ledger : List Change) where
+  kept-push : (before : List Change) (change : Change) → kept_in floor ledger (before ++ change ∷ []) ≡ kept_in floor ledger before ++ kept_in floor ledger (change ∷ [])
+  kept-push before change = filter_map-append (kept_by floor ledger) before (change ∷ [])
+
+  kept-follow : (before changes : List Change) → IsLedgerFrom before changes → ((id : ℕ) → Contains (numbers changes) id → id < next)
+      → IsLedgerFrom (Floor floor next ∷ kept_in floor ledger before) (kept_in floor ledger changes)
+  kept-follow before [] is below = tt
+  kept-follow before (Open item ∷ changes) is below =
+      let rest = kept-follow (before ++ Open item ∷ []) changes is.1 (λ id m. below id (Contains-tail item.id (numbers changes) id m)) in
+      let may = kept-one floor ledger before item.id 0 next item.digest.0 is.0.0 is.0.1 (below item.id (Contains-head item.id (numbers changes))) in
+      let more : IsLedgerFrom (Floor floor next ∷ (kept_in floor ledger before ++ kept_in floor ledger (Open item ∷ []))) (kept_in floor ledger changes) =
+      subst (λ (behind : List Change). IsLedgerFrom (Floor floor next ∷ behind) (kept_in floor ledger changes)) (kept-push before (Open item)) rest in
+      (elim (is_open ledger item) as (λ b. IsLedgerFrom (Floor floor next ∷ (kept_in floor ledger before ++ cons_option (cond b (Some (Open item)) (cond (nat_le floor item.stamp) (Some (Settled item.id item.stamp item.digest)) None)) []))
+      (kept_in floor ledger changes)
+      → IsLedgerFrom (Floor floor next ∷ kept_in floor ledger before) (cons_option (cond b (Some (Open item)) (cond (nat_le floor item.stamp) (Some (Settled item.id item.stamp item.digest)) None)) (kept_in floor ledger changes))) [
+        | true ↦ λ h. (may, h)
+        | false ↦ elim (nat_le floor item.stamp) as (λ c. IsLedgerFrom (Floor floor next ∷ (kept_in floor ledger before ++ cons_option (cond c (Some (Settled item.id item.stamp item.digest)) None) [])) (kept_in floor ledger changes)
+            → IsLedgerFrom (Floor floor next ∷ kept_in floor ledger before) (cons_option (cond c (Some (Settled item.id item.stamp item.digest)) None) (kept_in floor ledger changes))) [
+              | true ↦ λ h. (may, h)
+              | false ↦ λ h. subst (λ (behind : List Change). IsLedgerFrom (Floor floor next ∷ behind) (kept_in floor ledger changes)) (append-nil (kept_in floor ledger before)) h
+            ]
+      ]) more
+  kept-follow before (Done id ∷ changes) is below =
+      subst (λ (behind : List Change). IsLedgerFrom (Floor floor next ∷ behind) (kept_in floor ledger changes)) (kept-push before (Done id) ∙ append-nil (kept_in floor ledger before))
+      (kept-follow (before ++ Done id ∷ []) changes is.1 below)
+  kept-follow before (Settled id stamp digest ∷ changes) is below =
+      let rest = kept-follow (before ++ Settled id stamp digest ∷ []) changes is.1 (λ other m. below other (Contains-tail id (numbers changes) other m)) in
+      let may = kept-one floor ledger before id 0 next digest.0 is.0.0 is.0.1 (below id (Contains-head id (numbers changes))) in
+      let more : IsLedgerFrom (Floor floor next ∷ (kept_in floor ledger before ++ kept_in floor ledger (Settled id stamp digest ∷ []))) (kept_in floor ledger changes) =
+      subst (λ (behind : List Change). IsLedgerFrom (Floor floor next ∷ behind) (kept_in floor ledger changes)) (kept-push before (Settled id stamp digest)) rest in
+      (elim (nat_le floor stamp) as (λ c. IsLedgerFrom (Floor floor next ∷ (kept_in floor ledger before ++ cons_option (cond c (Some (Settled id stamp digest)) None) [])) (kept_in floor ledger changes)
+      → IsLedgerFrom (Floor floor next ∷ kept_in floor ledger before) (cons_option (cond c (Some (Settled id stamp digest)) None) (kept_in floor ledger changes))) [
+        | true ↦ λ h. (may, h)
+        | false ↦ λ h. subst (λ (behind : List Change). IsLedgerFrom (Floor floor next ∷ behind) (kept_in floor ledger changes)) (append-nil (kept_in floor ledger before)) h
+      ]) more
+  kept-follow before (Floor lower first ∷ changes) is below =
+      subst (λ (behind : List Change). IsLedgerFrom (Floor floor next ∷ behind) (kept_in floor ledger changes)) (kept-push before (Floor lower first) ∙ append-nil (kept_in floor ledger before))
+      (kept-follow (before ++ Floor lower first ∷ []) changes is.1 below)
+
+pub ledger-rise : (floor next : ℕ) (ledger : List Change) → next ≡ next_id ledger → IsLedger ledger → IsLedger (after_one ledger (Floor floor next))
+ledger-rise floor next ledger e is = (refl, kept-follow floor next ledger [] ledger is (λ id m. let low = number-below 1 ledger id m in omega arith))
+
+-- what is made leaves a ledger
+made-from : (base ledger changes : List Change) → IsLedger ledger → AreMadeFrom IsLive base ledger changes → IsLedger (after ledger changes)
+made-from base ledger [] is h = is
+made-from base ledger (Open item ∷ changes) is h =
+    made-from (ledger ++ Open item ∷ []) (ledger ++ Open item ∷ []) changes (ledger-push ledger (Open item) is (made-follow ledger item h.0.0 h.0.1)) h.1
+made-from base ledger (Done id ∷ changes) is h = made-from (ledger ++ Done id ∷ []) (ledger ++ Done id ∷ []) changes (ledger-push ledger (Done id) is h.0) h.1
+made-from base ledger (Settled id stamp digest ∷ changes) is h = absurd h
+made-from base ledger (Floor floor next ∷ changes) is h = made-from ledger (after_one ledger (Floor floor next)) changes (ledger-rise floor next ledger h.0.0 is) h.1
+
+pub ledger-made : (ledger changes : List Change) → IsLedger ledger → AreMade IsLive ledger changes → IsLedger (after ledger changes)
+ledger-made ledger changes is h = made-from ledger ledger changes is h
 
 -- a record stays live unless one of these Dones is its own
 pub live-unless_settled : (ledger : List Change) (item : OpenRecord) → Contains (opens ledger) item → Contains (live ledger) item ⊎ Contains (dones ledger) item.id
@@ -202,3 +238,146 @@ live-kept_open ledger item other m =
     let all : live (ledger ++ Open item ∷ []) ≡ live ledger ++ filter keeps (item ∷ []) =
     live-of (ledger ++ Open item ∷ []) (dones ledger) (opens ledger ++ item ∷ []) (dones-push_open ledger item) (opens-push_open ledger item) ∙ filter-append keeps (opens ledger) (item ∷ []) in
     subst (λ (items : List OpenRecord). Contains items other) (sym all) (Contains-append_left (live ledger) (filter keeps (item ∷ [])) other m)
+
+-- a Floor leaves the live records
+pub live-floor : (floor next : ℕ) (ledger : List Change) → next ≡ next_id ledger → live (after_one ledger (Floor floor next)) ≡ live ledger
+live-floor floor next ledger e = ap (λ (n : ℕ). live (after_one ledger (Floor floor n))) e ∙ live-rise floor ledger
+
+next-floor : (floor next : ℕ) (ledger : List Change) → next ≡ next_id ledger → next_id (after_one ledger (Floor floor next)) ≡ next_id ledger
+next-floor floor next ledger e = ap (λ (n : ℕ). next_id (after_one ledger (Floor floor n))) e ∙ next_id-rise floor ledger
+
+-- where a Done isn't the record's own, it stays live
+live-other : (ledger : List Change) (id : ℕ) (item : OpenRecord) → id ≢ item.id → Contains (live ledger) item → Contains (live (ledger ++ Done id ∷ [])) item
+live-other ledger id item differs m =
+    subst (λ (items : List OpenRecord). Contains items item) (sym (live-push_done ledger id)) (Contains-kept (λ (r : OpenRecord). not (eqb id r.id)) (live ledger) item (ap not (ne_eqb id item.id differs)) m)
+
+-- what is live stays so, or is settled
+live-from : (MayEnd : List Change → ℕ → Type 0) (base ledger changes : List Change) → AreMadeFrom MayEnd base ledger changes → (item : OpenRecord) → Contains (live ledger) item
+    → Contains (live (after ledger changes)) item ⊎ Contains (dones changes) item.id
+live-from MayEnd base ledger [] h item m = inl m
+live-from MayEnd base ledger (Open other ∷ changes) h item m = live-from MayEnd (ledger ++ Open other ∷ []) (ledger ++ Open other ∷ []) changes h.1 item (live-kept_open ledger other item m)
+live-from MayEnd base ledger (Done id ∷ changes) h item m =
+    elim (cases_eq id item.id) [
+      | inl e ↦ inr (subst (λ (n : ℕ). Contains (id ∷ dones changes) n) e (Contains-head id (dones changes)))
+      | inr differs ↦ elim (live-from MayEnd (ledger ++ Done id ∷ []) (ledger ++ Done id ∷ []) changes h.1 item (live-other ledger id item differs m)) [
+        | inl lives ↦ inl lives
+        | inr settled ↦ inr (Contains-tail id (dones changes) item.id settled)
+      ]
+    ]
+live-from MayEnd base ledger (Settled id stamp digest ∷ changes) h item m = absurd h
+live-from MayEnd base ledger (Floor floor next ∷ changes) h item m =
+    live-from MayEnd ledger (after_one ledger (Floor floor next)) changes h.1 item (subst (λ (items : List OpenRecord). Contains items item) (sym (live-floor floor next ledger h.0.0)) m)
+
+pub live-made : (MayEnd : List Change → ℕ → Type 0) (ledger changes : List Change) → AreMade MayEnd ledger changes → (item : OpenRecord) → Contains (live ledger) item
+    → Contains (live (after ledger changes)) item ⊎ Contains (dones changes) item.id
+live-made MayEnd ledger changes h item m = live-from MayEnd ledger ledger changes h item m
+
+-- a record that is made is live, or is settled
+below-floor : (floor next : ℕ) (ledger : List Change) → AreBelow (after_one ledger (Floor floor next))
+below-floor floor next ledger id m = absurd (let none = subst (λ (ids : List ℕ). Contains ids id) (dones-kept floor ledger ledger) m in omega (arith, none.1))
+
+live-new : (ledger : List Change) (item : OpenRecord) → AreBelow ledger → item.id ≡ next_id ledger → Contains (live (ledger ++ Open item ∷ [])) item
+live-new ledger item below new =
+    let none : list_any (λ d. eqb d item.id) (dones ledger) ≡ false =
+    none_at_bound (dones ledger) item.id (All-by (λ id. id < item.id) (dones ledger) (λ id m. let low = below id m in omega arith)) in
+    subst (λ (items : List OpenRecord). Contains items item) (sym (live-push_open ledger item none)) (Contains-append_right (live ledger) (item ∷ []) item (Contains-head item []))
+
+opened-from : (base ledger changes : List Change) → AreBelow ledger → AreMadeFrom IsLive base ledger changes → (item : OpenRecord) → Contains (opens changes) item
+    → Contains (live (after ledger changes)) item ⊎ Contains (dones changes) item.id
+opened-from base ledger [] below h item m = absurd (omega (arith, m.1))
+opened-from base ledger (Open other ∷ changes) below h item m =
+    elim (Contains-cases other (opens changes) item m) [
+      | inl e ↦
+          live-from IsLive (ledger ++ Open other ∷ []) (ledger ++ Open other ∷ []) changes h.1 item
+          (subst (λ (r : OpenRecord). Contains (live (ledger ++ Open other ∷ [])) r) e (live-new ledger other below h.0.0))
+      | inr n ↦ opened-from (ledger ++ Open other ∷ []) (ledger ++ Open other ∷ []) changes (below-push ledger (Open other) below (made-follow ledger other h.0.0 h.0.1)) h.1 item n
+    ]
+opened-from base ledger (Done id ∷ changes) below h item m =
+    elim (opened-from (ledger ++ Done id ∷ []) (ledger ++ Done id ∷ []) changes (below-push ledger (Done id) below h.0) h.1 item m) [
+      | inl lives ↦ inl lives
+      | inr settled ↦ inr (Contains-tail id (dones changes) item.id settled)
+    ]
+opened-from base ledger (Settled id stamp digest ∷ changes) below h item m = absurd h
+opened-from base ledger (Floor floor next ∷ changes) below h item m = opened-from ledger (after_one ledger (Floor floor next)) changes (below-floor floor next ledger) h.1 item m
+
+pub opened-made : (ledger changes : List Change) → IsLedger ledger → AreMade IsLive ledger changes → (item : OpenRecord) → Contains (opens changes) item
+    → Contains (live (after ledger changes)) item ⊎ Contains (dones changes) item.id
+opened-made ledger changes is h item m = opened-from ledger ledger changes (settled-below ledger is) h item m
+
+-- what is live afterwards and has a number from before was live before
+back-from : (MayEnd : List Change → ℕ → Type 0) (base ledger changes : List Change) → AreMadeFrom MayEnd base ledger changes → (item : OpenRecord) → Contains (live (after ledger changes)) item → item.id < next_id ledger
+    → Contains (live ledger) item
+back-from MayEnd base ledger [] h item m low = m
+back-from MayEnd base ledger (Open other ∷ changes) h item m low =
+    let next = next_id-push_open ledger other h.0.0 in
+    let there = back-from MayEnd (ledger ++ Open other ∷ []) (ledger ++ Open other ∷ []) changes h.1 item m (omega arith) in
+    let recorded = live-recorded (ledger ++ Open other ∷ []) item there in
+    elim (Contains-push_cases (opens ledger) other item (subst (λ (items : List OpenRecord). Contains items item) (opens-push_open ledger other) recorded.0)) [
+      | inl k ↦ elim (live-unless_settled ledger item k) [
+        | inl lives ↦ lives
+        | inr settled ↦ absurd (recorded.1 (subst (λ (ids : List ℕ). Contains ids item.id) (sym (dones-push_open ledger other)) settled))
+      ]
+      | inr e ↦ absurd (let same = ap (λ (r : OpenRecord). r.id) e in let new = h.0.0 in omega arith)
+    ]
+back-from MayEnd base ledger (Done id ∷ changes) h item m low =
+    let next = next_id-push ledger (Done id) in
+    let there = back-from MayEnd (ledger ++ Done id ∷ []) (ledger ++ Done id ∷ []) changes h.1 item m (omega arith) in
+    Contains-filter (λ (r : OpenRecord). not (eqb id r.id)) (live ledger) item (subst (λ (items : List OpenRecord). Contains items item) (live-push_done ledger id) there)
+back-from MayEnd base ledger (Settled id stamp digest ∷ changes) h item m low = absurd h
+back-from MayEnd base ledger (Floor floor next ∷ changes) h item m low =
+    let same = next-floor floor next ledger h.0.0 in
+    subst (λ (items : List OpenRecord). Contains items item) (live-floor floor next ledger h.0.0) (back-from MayEnd ledger (after_one ledger (Floor floor next)) changes h.1 item m (omega arith))
+
+pub live-back : (MayEnd : List Change → ℕ → Type 0) (ledger changes : List Change) → AreMade MayEnd ledger changes → (item : OpenRecord) → Contains (live (after ledger changes)) item → item.id < next_id ledger
+    → Contains (live ledger) item
+live-back MayEnd ledger changes h item m low = back-from MayEnd ledger ledger changes h item m low
+
+behind-from : (MayEnd : List Change → ℕ → Type 0) (base ledger a b : List Change) → AreMadeFrom MayEnd base ledger (a ++ b) → (other : List Change) × AreMadeFrom MayEnd other (after ledger a) b
+behind-from MayEnd base ledger [] b h = (base, h)
+behind-from MayEnd base ledger (Open item ∷ a) b h = behind-from MayEnd (ledger ++ Open item ∷ []) (ledger ++ Open item ∷ []) a b h.1
+behind-from MayEnd base ledger (Done id ∷ a) b h = behind-from MayEnd (ledger ++ Done id ∷ []) (ledger ++ Done id ∷ []) a b h.1
+behind-from MayEnd base ledger (Settled id stamp digest ∷ a) b h = absurd h
+behind-from MayEnd base ledger (Floor floor next ∷ a) b h = behind-from MayEnd ledger (after_one ledger (Floor floor next)) a b h.1
+
+-- and so was what is live behind more changes
+pub live-since : (MayEnd : List Change → ℕ → Type 0) (ledger a b : List Change) → AreMade MayEnd ledger (a ++ b) → (item : OpenRecord) → Contains (live (after (after ledger a) b)) item
+    → item.id < next_id (after ledger a) → Contains (live (after ledger a)) item
+live-since MayEnd ledger a b h item m low =
+    let behind = behind-from MayEnd ledger ledger a b h in
+    back-from MayEnd behind.0 (after ledger a) b behind.1 item m low
+
+in-range : (a n x : ℕ) → Contains (range_with_len a n) x → (a ≤ x) × (x < a + n)
+in-range a zero x m = absurd (omega (arith, m.1))
+in-range a (suc n) x m =
+    elim (Contains-cases a (range_with_len (a + 1) n) x m) [
+      | inl same ↦ (omega (arith, same), omega (arith, same))
+      | inr more ↦ let within = in-range (a + 1) n x more in let low = within.0 in let up = within.1 in (omega arith, omega arith)
+    ]
+
+apart-ids : (items : List OpenRecord) (next : ℕ) → map (λ item. item.id) items ≡ range_with_len next (length items) → AllPairs (λ a b. a.id ≢ b.id) items
+apart-ids [] next e = λ i j d l k. absurd (omega arith)
+apart-ids (item ∷ items) next e =
+    let first : item.id ≡ next = cc in
+    let rest : map (λ (r : OpenRecord). r.id) items ≡ range_with_len (next + 1) (length items) = cc in
+    AllPairs-cons (λ (a b : OpenRecord). a.id ≢ b.id) item items
+    (All-by (λ (other : OpenRecord). item.id ≢ other.id) items (λ other m same.
+    let within = in-range (next + 1) (length items) other.id (subst (λ (ids : List ℕ). Contains ids other.id) rest (Contains-map (λ (r : OpenRecord). r.id) items other m)) in
+    let low = within.0 in
+    absurd (omega arith)))
+    (apart-ids items (next + 1) rest)
+
+-- the records that are made have numbers from the next on, below the one after them, and are told apart by them
+pub made-above : (MayEnd : List Change → ℕ → Type 0) (ledger changes : List Change) → AreMade MayEnd ledger changes → (item : OpenRecord) → Contains (opens changes) item
+    → (next_id ledger ≤ item.id) × (item.id < next_id (after ledger changes))
+made-above MayEnd ledger changes h item m =
+    let numbered = made-numbered MayEnd ledger changes h in
+    let among : Contains (range_with_len (next_id ledger) (length (opens changes))) item.id =
+    subst (λ (ids : List ℕ). Contains ids item.id) numbered.0 (Contains-map (λ (r : OpenRecord). r.id) (opens changes) item m) in
+    let within = in-range (next_id ledger) (length (opens changes)) item.id among in
+    let all = numbered.1 in
+    (within.0, let up = within.1 in omega arith)
+
+pub made-one : (MayEnd : List Change → ℕ → Type 0) (ledger changes : List Change) → AreMade MayEnd ledger changes → (a b : OpenRecord) → Contains (opens changes) a → Contains (opens changes) b → a.id ≡ b.id → a ≡ b
+made-one MayEnd ledger changes h a b m n e =
+    let numbered = made-numbered MayEnd ledger changes h in
+    same_by_key (λ (r : OpenRecord). r.id) (opens changes) (apart-ids (opens changes) (next_id ledger) numbered.0) a b m n e

@@ -17,7 +17,7 @@ use Rattle.fk_trace.specs.Settled.{settled_in, EndedCleanly}
 use Rattle.fk_trace.specs.Attempts.{IsAttempt, IsNoPoll}
 use Rattle.fk_trace.proofs.Splits.{cases_joined, Contains-place, Contains-recursion}
 use Rattle.fk_trace.proofs.Ledgers.{opens-append, dones-append, after-append}
-use Rattle.fk_trace.proofs.Made.{AreMade, Whatever, made-numbered, made-apart, made-fresh}
+use Rattle.fk_trace.proofs.Made.{AreMade, IsLive, Whatever, made-front, made-numbered, made-apart, made-fresh}
 use Rattle.fk_trace.proofs.Settled.{ends-later, ends-longer, settled_in-append}
 use Rattle.fk_run.specs.Place.{Place, entry}
 use Rattle.fk_run.specs.Turn.{TakenTurn, WholeTurn, CutTurn, after_turn, after_turns}
@@ -28,8 +28,8 @@ use Rattle.fk_run.proofs.Items.{none-opened, ended_polled, turns_begun-append, o
 use Rattle.fk_run.proofs.Turns.{most-one, turns_begun-front, opens-in_turn, settled_in-front, settlements-front, opens_attempted-front, opens_attempted-whole, settles-in_turn}
 use Rattle.fk_run.proofs.Closings.{closes-in_turn}
 use Rattle.fk_run.proofs.Fronts.{items_of, made_by, ids_of, ids-append, past-after_turns, ledger-after_turns, AreWhole, front-whole, turn-at, begun-front, settled-front, attempted-front, InTurn, in-turn, with_more, whole-attempt, made-turns}
-use Rattle.fk_run.proofs.Ledgers.{ledger-cut}
-use Rattle.fk_run.proofs.Leaves.{leaves-ledger}
+use Rattle.fk_run.proofs.Ledgers.{ledger-made}
+use Rattle.fk_run.proofs.Leaves.{leaves-made}
 
 -- an attempt of a legal run: the turn in which it stands, and the whole turn that begins with it
 record AttemptAt (run : Run) (before : List Item) (item : Item) : Type 0 where
@@ -119,15 +119,13 @@ closes-run run legal before item later id words e h =
     λ is.
     let joined : made_by (at.front ++ at.taken ∷ at.later) ≡ (made_by at.front ++ at.taken.changes) ++ made_by at.later =
     flat_map-append (λ (taken : TakenTurn). taken.changes) at.front (at.taken ∷ at.later) ∙ sym (append_assoc (made_by at.front) at.taken.changes (made_by at.later)) in
-    let all : IsLedger (after run.ledger ((made_by at.front ++ at.taken.changes) ++ made_by at.later)) =
-    subst (λ (changes : List Change). IsLedger (after run.ledger changes)) joined
-    (subst (λ (turns : List TakenTurn). IsLedger (after run.ledger (made_by turns))) at.placed (leaves-ledger run legal is)) in
-    let made : AreMade Whatever run.ledger ((made_by at.front ++ at.taken.changes) ++ made_by at.later) =
-    subst (λ (changes : List Change). AreMade Whatever run.ledger changes) joined
-    (subst (λ (turns : List TakenTurn). AreMade Whatever run.ledger (made_by turns)) at.placed (made-run run legal)) in
+    let made : AreMade IsLive run.ledger ((made_by at.front ++ at.taken.changes) ++ made_by at.later) =
+    subst (λ (changes : List Change). AreMade IsLive run.ledger changes) joined
+    (subst (λ (turns : List TakenTurn). AreMade IsLive run.ledger (made_by turns)) at.placed (leaves-made run legal is)) in
     let here : after place.ledger at.taken.changes ≡ after run.ledger (made_by at.front ++ at.taken.changes) =
     ap (λ (ledger : List Change). after ledger at.taken.changes) (ledger-after_turns (entry run.ledger) at.front) ∙ sym (after-append run.ledger (made_by at.front) at.taken.changes) in
-    subst IsLedger (sym here) (ledger-cut run.ledger (made_by at.front ++ at.taken.changes) (made_by at.later) made all) in
+    subst IsLedger (sym here)
+    (ledger-made run.ledger (made_by at.front ++ at.taken.changes) is (made-front IsLive run.ledger (made_by at.front ++ at.taken.changes) (made_by at.later) made)) in
     record {
       at = stands-in found (Close id) words h;
       place = _;

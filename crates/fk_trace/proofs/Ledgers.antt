@@ -1,13 +1,17 @@
 -- What one more change does to a ledger, and what more changes do.
-use Rattle.std.proofs.Common.{◌≡◌, ℕ, ◌+◌, ◌<◌, ◌≤◌, max, Bool, true, false, not, ◌||◌, cond, eqb, List, [], ◌∷◌, ◌++◌, map, refl, sym, ap, ◌∙◌, append-nil, append_assoc, arith}
-use Rattle.std.specs.List.{filter, list_any, All}
+use Rattle.std.proofs.Common.{◌≡◌, ℕ, ◌+◌, ◌<◌, ◌≤◌, max, Bool, true, false, not, ◌||◌, cond, eqb, List, [], ◌∷◌, ◌++◌, map, Some, None, refl, sym, ap, ◌∙◌, subst, append-nil, append_assoc, arith, inl, inr}
+use Rattle.std.specs.Prelude.{nat_le}
+use Rattle.std.specs.List.{filter, filter_map, cons_option, list_any, All, Contains}
 use Rattle.std.proofs.lemmas.List.Elements.{filter_map-append, filter-append, All-head, All-tail}
+use Rattle.std.proofs.lemmas.Bool.{le-leb}
 use Rattle.std.proofs.lemmas.Bool.Decides.{nat_tests}
 use Rattle.std.proofs.lemmas.List.Folds.{list_any-append}
+use Rattle.fk_base.specs.declared.digest.Digest.{Digest}
 use Rattle.fk_trace.specs.declared.change.OpenRecord.{OpenRecord}
 use Rattle.fk_trace.specs.declared.change.Change.{Change}
 use Rattle.fk_trace.specs.declared.change.Change.TheVariants.{Open, Done, Settled, Floor}
-use Rattle.fk_trace.specs.Ledger.{key_of, key_by, opened_by, closed_by, numbered_by, opens, dones, live, seen, numbers, floor_by, floor_from, next_by, next_from, next_id, after_one, after}
+use Rattle.fk_trace.specs.Ledger.{Key, key_of, key_by, opened_by, closed_by, numbered_by, opens, dones, live, is_open, seen, numbers, floor_by, floor_from, floor_of, next_by, next_from, next_id, kept_by, rise, after_one, after}
+use Rattle.fk_trace.proofs.Lists.{Contains-head, Contains-tail, Contains-cases}
 
 -- two filters, one after the other
 pub filter-filter : {X : Type 0} (p q r : X → Bool) → ((x : X) → r x ≡ (p x || q x)) → (xs : List X) → filter (λ x. not (r x)) xs ≡ filter (λ x. not (q x)) (filter (λ x. not (p x)) xs)
@@ -94,7 +98,7 @@ live-append_none ledger changes none_opened none_closed =
     (dones-append ledger changes ∙ ap (λ ids. dones ledger ++ ids) none_closed ∙ append-nil (dones ledger))
     (opens-append ledger changes ∙ ap (λ items. opens ledger ++ items) none_opened ∙ append-nil (opens ledger))
 
-pub live-push_settled : (ledger : List Change) (id stamp : ℕ) (digest : _) → live (ledger ++ Settled id stamp digest ∷ []) ≡ live ledger
+pub live-push_settled : (ledger : List Change) (id stamp : ℕ) (digest : Digest) → live (ledger ++ Settled id stamp digest ∷ []) ≡ live ledger
 live-push_settled ledger id stamp digest = live-append_none ledger (Settled id stamp digest ∷ []) refl refl
 
 pub next_id-push : (ledger : List Change) (change : Change) → next_id (ledger ++ change ∷ []) ≡ next_by change (next_id ledger)
@@ -171,3 +175,218 @@ next_from-above next (change ∷ changes) =
     let here = next_by-above change next in
     let rest = next_from-above (next_by change next) changes in
     omega arith
+
+-- the numbers that a ledger has are below the next
+pub number-below : (next : ℕ) (changes : List Change) (id : ℕ) → Contains (numbers changes) id → id < next_from next changes
+number-below next [] id m = absurd (omega (arith, m.1))
+number-below next (Open item ∷ changes) id m =
+    elim (Contains-cases item.id (numbers changes) id m) [
+      | inl e ↦ let up = next_from-above (max next (item.id + 1)) changes in grind arith
+      | inr n ↦ number-below (max next (item.id + 1)) changes id n
+    ]
+number-below next (Done other ∷ changes) id m = number-below next changes id m
+number-below next (Settled other stamp digest ∷ changes) id m =
+    elim (Contains-cases other (numbers changes) id m) [
+      | inl e ↦ let up = next_from-above (max next (other + 1)) changes in grind arith
+      | inr n ↦ number-below (max next (other + 1)) changes id n
+    ]
+number-below next (Floor floor first ∷ changes) id m = number-below (max next first) changes id m
+
+pub open-number : (changes : List Change) (item : OpenRecord) → Contains (opens changes) item → Contains (numbers changes) item.id
+open-number [] item m = absurd (omega (arith, m.1))
+open-number (Open other ∷ changes) item m =
+    elim (Contains-cases other (opens changes) item m) [
+      | inl e ↦ subst (λ (r : OpenRecord). Contains (other.id ∷ numbers changes) r.id) e (Contains-head other.id (numbers changes))
+      | inr n ↦ Contains-tail other.id (numbers changes) item.id (open-number changes item n)
+    ]
+open-number (Done id ∷ changes) item m = open-number changes item m
+open-number (Settled id stamp digest ∷ changes) item m = Contains-tail id (numbers changes) item.id (open-number changes item m)
+open-number (Floor floor next ∷ changes) item m = open-number changes item m
+
+-- where a ledger begins anew
+pub filter-all : {X : Type 0} (xs : List X) → filter (λ x. true) xs ≡ xs
+filter-all [] = refl
+filter-all (x ∷ xs) = ap (λ ys. x ∷ ys) (filter-all xs)
+
+module _ (floor : ℕ) (ledger : List Change) where
+  abbrev pub kept_in : List Change → List Change
+  kept_in changes = filter_map (kept_by floor ledger) changes
+
+  opens-kept : (changes : List Change) → opens (kept_in changes) ≡ filter (is_open ledger) (opens changes)
+  opens-kept [] = refl
+  opens-kept (Open item ∷ changes) =
+      let ih = opens-kept changes in
+      elim (is_open ledger item) as (λ b. opens (cons_option (cond b (Some (Open item)) (cond (nat_le floor item.stamp) (Some (Settled item.id item.stamp item.digest)) None)) (kept_in changes))
+      ≡ cond b (item ∷ filter (is_open ledger) (opens changes)) (filter (is_open ledger) (opens changes))) [
+        | true ↦ ap (λ items. item ∷ items) ih
+        | false ↦ elim (nat_le floor item.stamp) as (λ c. opens (cons_option (cond c (Some (Settled item.id item.stamp item.digest)) None) (kept_in changes)) ≡ filter (is_open ledger) (opens changes)) [
+          | true ↦ ih
+          | false ↦ ih
+        ]
+      ]
+  opens-kept (Done id ∷ changes) = opens-kept changes
+  opens-kept (Settled id stamp digest ∷ changes) =
+      let ih = opens-kept changes in
+      elim (nat_le floor stamp) as (λ c. opens (cons_option (cond c (Some (Settled id stamp digest)) None) (kept_in changes)) ≡ filter (is_open ledger) (opens changes)) [
+        | true ↦ ih
+        | false ↦ ih
+      ]
+  opens-kept (Floor lower next ∷ changes) = opens-kept changes
+
+  pub dones-kept : (changes : List Change) → dones (kept_in changes) ≡ []
+  dones-kept [] = refl
+  dones-kept (Open item ∷ changes) =
+      let ih = dones-kept changes in
+      elim (is_open ledger item) as (λ b. dones (cons_option (cond b (Some (Open item)) (cond (nat_le floor item.stamp) (Some (Settled item.id item.stamp item.digest)) None)) (kept_in changes)) ≡ []) [
+        | true ↦ ih
+        | false ↦ elim (nat_le floor item.stamp) as (λ c. dones (cons_option (cond c (Some (Settled item.id item.stamp item.digest)) None) (kept_in changes)) ≡ []) [ true ↦ ih | false ↦ ih ]
+      ]
+  dones-kept (Done id ∷ changes) = dones-kept changes
+  dones-kept (Settled id stamp digest ∷ changes) =
+      let ih = dones-kept changes in
+      elim (nat_le floor stamp) as (λ c. dones (cons_option (cond c (Some (Settled id stamp digest)) None) (kept_in changes)) ≡ []) [ true ↦ ih | false ↦ ih ]
+  dones-kept (Floor lower next ∷ changes) = dones-kept changes
+
+  floor-kept : (lower : ℕ) (changes : List Change) → floor_from lower (kept_in changes) ≡ lower
+  floor-kept lower [] = refl
+  floor-kept lower (Open item ∷ changes) =
+      let ih = floor-kept lower changes in
+      elim (is_open ledger item) as (λ b. floor_from lower (cons_option (cond b (Some (Open item)) (cond (nat_le floor item.stamp) (Some (Settled item.id item.stamp item.digest)) None)) (kept_in changes)) ≡ lower) [
+        | true ↦ ih
+        | false ↦ elim (nat_le floor item.stamp) as (λ c. floor_from lower (cons_option (cond c (Some (Settled item.id item.stamp item.digest)) None) (kept_in changes)) ≡ lower) [ true ↦ ih | false ↦ ih ]
+      ]
+  floor-kept lower (Done id ∷ changes) = floor-kept lower changes
+  floor-kept lower (Settled id stamp digest ∷ changes) =
+      let ih = floor-kept lower changes in
+      elim (nat_le floor stamp) as (λ c. floor_from lower (cons_option (cond c (Some (Settled id stamp digest)) None) (kept_in changes)) ≡ lower) [ true ↦ ih | false ↦ ih ]
+  floor-kept lower (Floor other next ∷ changes) = floor-kept lower changes
+
+  -- what is kept has its number from before
+  pub numbers-kept : (changes : List Change) (id : ℕ) → Contains (numbers (kept_in changes)) id → Contains (numbers changes) id
+  numbers-kept [] id m = m
+  numbers-kept (Open item ∷ changes) id m =
+      let here : Contains (item.id ∷ numbers (kept_in changes)) id → Contains (item.id ∷ numbers changes) id =
+      λ n. elim (Contains-cases item.id (numbers (kept_in changes)) id n) [
+        | inl e ↦ subst (λ (k : ℕ). Contains (item.id ∷ numbers changes) k) e (Contains-head item.id (numbers changes))
+        | inr k ↦ Contains-tail item.id (numbers changes) id (numbers-kept changes id k)
+      ] in
+      let gone : Contains (numbers (kept_in changes)) id → Contains (item.id ∷ numbers changes) id = λ k. Contains-tail item.id (numbers changes) id (numbers-kept changes id k) in
+      (elim (is_open ledger item) as (λ b. Contains (numbers (cons_option (cond b (Some (Open item)) (cond (nat_le floor item.stamp) (Some (Settled item.id item.stamp item.digest)) None)) (kept_in changes))) id
+      → Contains (item.id ∷ numbers changes) id) [
+        | true ↦ here
+        | false ↦ elim (nat_le floor item.stamp) as (λ c. Contains (numbers (cons_option (cond c (Some (Settled item.id item.stamp item.digest)) None) (kept_in changes))) id → Contains (item.id ∷ numbers changes) id) [
+          | true ↦ here
+          | false ↦ gone
+        ]
+      ]) m
+  numbers-kept (Done done ∷ changes) id m = numbers-kept changes id m
+  numbers-kept (Settled settled stamp digest ∷ changes) id m =
+      (elim (nat_le floor stamp) as (λ c. Contains (numbers (cons_option (cond c (Some (Settled settled stamp digest)) None) (kept_in changes))) id → Contains (settled ∷ numbers changes) id) [
+        | true ↦ λ n. elim (Contains-cases settled (numbers (kept_in changes)) id n) [
+          | inl e ↦ subst (λ (k : ℕ). Contains (settled ∷ numbers changes) k) e (Contains-head settled (numbers changes))
+          | inr k ↦ Contains-tail settled (numbers changes) id (numbers-kept changes id k)
+        ]
+        | false ↦ λ n. Contains-tail settled (numbers changes) id (numbers-kept changes id n)
+      ]) m
+  numbers-kept (Floor lower next ∷ changes) id m = numbers-kept changes id m
+
+  -- and its key
+  pub seen-kept : (changes : List Change) (key : Key) → Contains (seen (kept_in changes)) key → Contains (seen changes) key
+  seen-kept [] key m = m
+  seen-kept (Open item ∷ changes) key m =
+      let here : Contains (key_of item ∷ seen (kept_in changes)) key → Contains (key_of item ∷ seen changes) key =
+      λ n. elim (Contains-cases (key_of item) (seen (kept_in changes)) key n) [
+        | inl e ↦ subst (λ (k : Key). Contains (key_of item ∷ seen changes) k) e (Contains-head (key_of item) (seen changes))
+        | inr k ↦ Contains-tail (key_of item) (seen changes) key (seen-kept changes key k)
+      ] in
+      let gone : Contains (seen (kept_in changes)) key → Contains (key_of item ∷ seen changes) key = λ k. Contains-tail (key_of item) (seen changes) key (seen-kept changes key k) in
+      (elim (is_open ledger item) as (λ b. Contains (seen (cons_option (cond b (Some (Open item)) (cond (nat_le floor item.stamp) (Some (Settled item.id item.stamp item.digest)) None)) (kept_in changes))) key
+      → Contains (key_of item ∷ seen changes) key) [
+        | true ↦ here
+        | false ↦ elim (nat_le floor item.stamp) as (λ c. Contains (seen (cons_option (cond c (Some (Settled item.id item.stamp item.digest)) None) (kept_in changes))) key → Contains (key_of item ∷ seen changes) key) [
+          | true ↦ here
+          | false ↦ gone
+        ]
+      ]) m
+  seen-kept (Done done ∷ changes) key m = seen-kept changes key m
+  seen-kept (Settled id stamp digest ∷ changes) key m =
+      let mine : Key = record { digest = digest.0; stamp = stamp } in
+      (elim (nat_le floor stamp) as (λ c. Contains (seen (cons_option (cond c (Some (Settled id stamp digest)) None) (kept_in changes))) key → Contains (mine ∷ seen changes) key) [
+        | true ↦ λ n. elim (Contains-cases mine (seen (kept_in changes)) key n) [
+          | inl e ↦ subst (λ (k : Key). Contains (mine ∷ seen changes) k) e (Contains-head mine (seen changes))
+          | inr k ↦ Contains-tail mine (seen changes) key (seen-kept changes key k)
+        ]
+        | false ↦ λ n. Contains-tail mine (seen changes) key (seen-kept changes key n)
+      ]) m
+  seen-kept (Floor lower next ∷ changes) key m = seen-kept changes key m
+
+  -- a key that isn't below the floor is kept
+  pub kept-seen : (changes : List Change) (key : Key) → Contains (seen changes) key → floor ≤ key.stamp → Contains (seen (kept_in changes)) key
+  kept-seen [] key m above = m
+  kept-seen (Open item ∷ changes) key m above =
+      let rest : Contains (seen changes) key → Contains (seen (kept_in changes)) key = λ n. kept-seen changes key n above in
+      let same : key_of item ≡ key → nat_le floor item.stamp ≡ true = λ e. let up = ap (λ (k : Key). k.stamp) e in le-leb floor item.stamp (omega arith) in
+      elim (Contains-cases (key_of item) (seen changes) key m) [
+        | inl e ↦
+            rw (same e)
+            (elim (is_open ledger item) as (λ b. Contains (seen (cons_option (cond b (Some (Open item)) (Some (Settled item.id item.stamp item.digest))) (kept_in changes))) key) [
+              | true ↦ subst (λ (k : Key). Contains (key_of item ∷ seen (kept_in changes)) k) e (Contains-head (key_of item) (seen (kept_in changes)))
+              | false ↦ subst (λ (k : Key). Contains (key_of item ∷ seen (kept_in changes)) k) e (Contains-head (key_of item) (seen (kept_in changes)))
+            ])
+        | inr n ↦
+            elim (is_open ledger item) as (λ b. Contains (seen (cons_option (cond b (Some (Open item)) (cond (nat_le floor item.stamp) (Some (Settled item.id item.stamp item.digest)) None)) (kept_in changes))) key) [
+              | true ↦ Contains-tail (key_of item) (seen (kept_in changes)) key (rest n)
+              | false ↦ elim (nat_le floor item.stamp) as (λ c. Contains (seen (cons_option (cond c (Some (Settled item.id item.stamp item.digest)) None) (kept_in changes))) key) [
+                | true ↦ Contains-tail (key_of item) (seen (kept_in changes)) key (rest n)
+                | false ↦ rest n
+              ]
+            ]
+      ]
+  kept-seen (Done id ∷ changes) key m above = kept-seen changes key m above
+  kept-seen (Settled id stamp digest ∷ changes) key m above =
+      let mine : Key = record { digest = digest.0; stamp = stamp } in
+      elim (Contains-cases mine (seen changes) key m) [
+        | inl e ↦
+            let up = ap (λ (k : Key). k.stamp) e in
+            let kept : nat_le floor stamp ≡ true = le-leb floor stamp (omega arith) in
+            rw kept (subst (λ (k : Key). Contains (mine ∷ seen (kept_in changes)) k) e (Contains-head mine (seen (kept_in changes))))
+        | inr n ↦ elim (nat_le floor stamp) as (λ c. Contains (seen (cons_option (cond c (Some (Settled id stamp digest)) None) (kept_in changes))) key) [
+          | true ↦ Contains-tail mine (seen (kept_in changes)) key (kept-seen changes key n above)
+          | false ↦ kept-seen changes key n above
+        ]
+      ]
+  kept-seen (Floor lower next ∷ changes) key m above = kept-seen changes key m above
+
+  -- its numbers are below one that all were below
+  next-kept : (next : ℕ) (changes : List Change) → ((id : ℕ) → Contains (numbers changes) id → id < next) → next_from next (kept_in changes) ≡ next
+  next-kept next [] below = refl
+  next-kept next (Open item ∷ changes) below =
+      let ih = next-kept next changes (λ id m. below id (Contains-tail item.id (numbers changes) id m)) in
+      let low = below item.id (Contains-head item.id (numbers changes)) in
+      let same : max next (item.id + 1) ≡ next = grind (arith, low) in
+      let more : next_from (max next (item.id + 1)) (kept_in changes) ≡ next = ap (λ (n : ℕ). next_from n (kept_in changes)) same ∙ ih in
+      elim (is_open ledger item) as (λ b. next_from next (cons_option (cond b (Some (Open item)) (cond (nat_le floor item.stamp) (Some (Settled item.id item.stamp item.digest)) None)) (kept_in changes)) ≡ next) [
+        | true ↦ more
+        | false ↦ elim (nat_le floor item.stamp) as (λ c. next_from next (cons_option (cond c (Some (Settled item.id item.stamp item.digest)) None) (kept_in changes)) ≡ next) [ true ↦ more | false ↦ ih ]
+      ]
+  next-kept next (Done id ∷ changes) below = next-kept next changes below
+  next-kept next (Settled id stamp digest ∷ changes) below =
+      let ih = next-kept next changes (λ other m. below other (Contains-tail id (numbers changes) other m)) in
+      let low = below id (Contains-head id (numbers changes)) in
+      let same : max next (id + 1) ≡ next = grind (arith, low) in
+      let more : next_from (max next (id + 1)) (kept_in changes) ≡ next = ap (λ (n : ℕ). next_from n (kept_in changes)) same ∙ ih in
+      elim (nat_le floor stamp) as (λ c. next_from next (cons_option (cond c (Some (Settled id stamp digest)) None) (kept_in changes)) ≡ next) [ true ↦ more | false ↦ ih ]
+  next-kept next (Floor lower first ∷ changes) below = next-kept next changes below
+
+  -- A ledger that begins anew has its live records, the next number, this floor, and the keys that are not below it.
+  pub live-rise : live (after_one ledger (rise floor ledger)) ≡ live ledger
+  live-rise = live-of (after_one ledger (rise floor ledger)) [] (live ledger) (dones-kept ledger) (opens-kept ledger) ∙ filter-all (live ledger)
+
+  pub floor-rise : floor_of (after_one ledger (rise floor ledger)) ≡ floor
+  floor-rise = floor-kept floor ledger
+
+  pub next_id-rise : next_id (after_one ledger (rise floor ledger)) ≡ next_id ledger
+  next_id-rise =
+      let first = next_from-above 1 ledger in
+      let same : max 1 (next_id ledger) ≡ next_id ledger = grind arith in
+      ap (λ (n : ℕ). next_from n (kept_in ledger)) same ∙ next-kept (next_id ledger) ledger (number-below 1 ledger)
