@@ -3,6 +3,7 @@ use Rattle.std.specs.Prelude.{◌≡◌, ℕ, ◌+◌, ◌-◌, ◌<◌, ◌≤�
 use Rattle.std.specs.List.{AllPairs, AllByRecursion}
 use Rattle.fk_trace.specs.declared.change.Change.{Change}
 use Rattle.fk_trace.specs.Trace.{Item}
+use Rattle.fk_trace.specs.Ledger.{after}
 use Rattle.fk_host.specs.declared.disk.Area.{Area}
 use Rattle.fk_host.specs.declared.disk.Disk.{Ghosts as DiskMeaning}
 use Rattle.fk_host.specs.Disk.{Areas, Told, Above, IfTold, KeepsPast}
@@ -50,7 +51,7 @@ pub record HoldsFront (items : List Item) (ledger changes : List Change) (least 
   pub count : ℕ
   pub enough : least ≤ count
   pub cut : IsCutAt moment items changes count
-  pub holds : HoldsState (ledger ++ take count changes) image
+  pub holds : HoldsState (after ledger (take count changes)) image
 
 -- The moments of some calls. What a crash at an earlier moment may leave is as before; what is left is said of each image of a new
 -- moment, and of each image of the last one that it has no less than `least`.

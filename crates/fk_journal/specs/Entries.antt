@@ -1,4 +1,4 @@
--- The bytes of a journal: the format byte 1, then entries, each behind a gate byte of 1, and behind the last a gate byte of
+-- The bytes of a journal: the format byte 2, then entries, each behind a gate byte of 1, and behind the last a gate byte of
 -- another value. Numbers are written high byte first.
 use Rattle.std.specs.Prelude.{◌≡◌, ◌≢◌, ◌⊎◌, ℕ, ◌+◌, ◌<◌, ◌≤◌, ◌^◌, List, [], ◌∷◌, ◌++◌, length, map, slice_index}
 use Rattle.std.specs.List.{AllByRecursion, flat_map}
@@ -7,7 +7,7 @@ use Rattle.fk_journal.specs.declared.entry.Entry.{Entry}
 
 -- the first byte of an area
 abbrev pub format_byte : ℕ
-format_byte = 1
+format_byte = 2
 
 -- what an entry says
 pub record Content : Type 0 where
@@ -33,9 +33,9 @@ area_bytes contents = format_byte ∷ entries_bytes contents ++ 0 ∷ []
 abbrev pub place_behind : List Content → ℕ
 place_behind contents = 1 + length (entries_bytes contents)
 
--- the two kinds of entries are 1 and 2, and a payload's length has four bytes
+-- the kinds of entries are 1 to 4, and a payload's length has four bytes
 pub record IsContent (content : Content) : Type 0 where
-  pub kind : (content.kind ≡ 1) ⊎ (content.kind ≡ 2)
+  pub kind : (1 ≤ content.kind) × (content.kind ≤ 4)
   pub size : length content.payload < 2 ^ 32
 
 -- the area has this format, then these entries, and then these bytes

@@ -18,7 +18,7 @@ use std::alloc::Global;
 const OPEN: [u8; 1] = [1];
 
 /// The area of a journal without an entry: the format byte and a closed gate.
-const EMPTY: [u8; 2] = [1, 0];
+const EMPTY: [u8; 2] = [2, 0];
 
 /// An area as it was opened.
 #[derive(Drop)]

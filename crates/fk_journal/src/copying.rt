@@ -13,7 +13,7 @@ use fk_base::Failed;
 use fk_host::{Area, Disk};
 
 /// The format byte.
-const FORMAT: [u8; 1] = [1];
+const FORMAT: [u8; 1] = [2];
 
 /// A gate behind which no entry counts.
 const CLOSED: [u8; 1] = [0];
@@ -41,7 +41,7 @@ fn head_byte(area: Area) -> u8
 /// Empties the area, and writes the format byte.
 pub(crate) fn empty_area<D: Disk>(disk: &mut D, area: Area) -> Result<(), Failed>
     ensures moments { IfTold (D.told disk.old) (D.told disk.new) (Touches area 2 (D.may_leave disk.old) (D.may_leave disk.new)) }
-    ensures ok { OnOk result (IfTold (D.told disk.old) (D.told disk.new) (λ before after. area_of area after.areas ≡ 1 ∷ [])) }
+    ensures ok { OnOk result (IfTold (D.told disk.old) (D.told disk.new) (λ before after. area_of area after.areas ≡ 2 ∷ [])) }
     ensures host { LeavesHost D.told D.above disk.old disk.new }
     ensures cause { HasCause (D.faults disk.old) (D.faults disk.new) result }
 {

@@ -11,7 +11,7 @@ use std::alloc::Global;
 pub struct Entry {
     /// The place of its gate, counted in bytes from the area's start.
     pub place: u64,
-    /// 1 or 2.
+    /// 1 to 4.
     pub kind: u8,
     pub payload: Bytes,
 }
@@ -31,7 +31,7 @@ pub(crate) fn entries_of(alloc: Global, bytes: &[u8]) -> Result<(Vec<Entry>, usi
     if bytes.len() < 3 {
         return Ok((entries, 1));
     }
-    if bytes[0] != 1 {
+    if bytes[0] != 2 {
         return Err(JournalErr::Damaged(0));
     }
     let mut at = 1;
@@ -58,7 +58,7 @@ fn content_in(bytes: &[u8]) -> Option<(u8, &[u8])>
     let (size, rest) = bytes.split_first_chunk::<4>()?;
     let (kind, rest) = rest.split_first()?;
     let size = u32::from_be_bytes(*size) as usize;
-    if *kind != 1 && *kind != 2 || rest.len() <= size {
+    if *kind < 1 || *kind > 4 || rest.len() <= size {
         return None;
     }
     Some((*kind, &rest[..size]))

@@ -1,13 +1,13 @@
 -- A ledger that is served, as contracts see it, and its room.
-use Rattle.std.specs.Prelude.{ℕ, ◌+◌, ◌*◌, ◌&&◌, nat_lt, nat_le, Bool, true, false, List, length, map}
+use Rattle.std.specs.Prelude.{ℕ, ◌+◌, ◌*◌, nat_le, Bool, true, false, List, length, map}
 use Rattle.std.specs.List.{sum_by}
-use Rattle.fk_trace.specs.declared.change.OpenRecord.{OpenRecord}
 use Rattle.fk_trace.specs.declared.change.Change.{Change}
-use Rattle.fk_trace.specs.Ledger.{live}
+use Rattle.fk_trace.specs.Ledger.{live, after_one}
+use Rattle.fk_trace.specs.Decision.{Room}
 use Rattle.fk_host.specs.declared.disk.Area.{Area}
 use Rattle.fk_ledger.specs.declared.fault.RecordFault.{RecordFault}
 use Rattle.fk_ledger.specs.declared.fault.RecordFault.TheVariants.{Full, Disk}
-use Rattle.fk_ledger.specs.Payloads.{content_of, record_bytes}
+use Rattle.fk_ledger.specs.Payloads.{content_of}
 
 pub record Book : Type 0 where
   -- all changes, those that were found and those that were made
@@ -27,11 +27,16 @@ pub record Book : Type 0 where
 abbrev pub used : List Change → ℕ
 used ledger = 2 + sum_by (λ change. 6 + length (content_of change).payload) ledger
 
--- A record still fits: fewer than `limit` are live, and behind its entry the bytes of `room` are enough for the Done of each
--- live record and of this one, 14 bytes each.
-abbrev pub has_room : ℕ → ℕ → List Change → OpenRecord → Bool
-has_room room limit ledger item =
-    nat_lt (length (live ledger)) limit && nat_le (used ledger + (6 + length (record_bytes item)) + 14 * (length (live ledger) + 1)) room
+-- how many bytes a ledger needs: those that it uses, and 14 for the Done that each live record is owed
+abbrev pub needs : List Change → ℕ
+needs ledger = used ledger + 14 * length (live ledger)
+
+-- the room of a ledger whose journal may use so many bytes, and of which so many records may be live
+abbrev pub room_within : ℕ → ℕ → Room
+room_within room limit = record { limit = limit; fits = λ ledger change. nat_le (needs (after_one ledger change)) room }
+
+abbrev pub room_of : Book → Room
+room_of book = room_within book.room book.limit
 
 -- the numbers of the live records, rising
 abbrev pub live_ids : List Change → List ℕ

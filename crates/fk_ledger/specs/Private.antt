@@ -1,12 +1,12 @@
 -- What the contracts of this crate's private functions alone speak of. No public contract cites it, so no caller has to believe it.
-use Rattle.std.specs.Prelude.{◌≡◌, ◌≢◌, [], ℕ, ◌==◌, nat_eq, Bool, true, false, ◌+◌, ◌≤◌, nat_le, min, not, map, List, ◌∷◌, ◌++◌, length, if◌then◌else◌, vec_capacity}
+use Rattle.std.specs.Prelude.{◌≡◌, ◌≢◌, [], ℕ, ◌==◌, nat_eq, Bool, true, false, ◌+◌, ◌≤◌, nat_lt, nat_le, min, not, map, List, ◌∷◌, ◌++◌, length, if◌then◌else◌, vec_capacity}
 use Rattle.std.specs.List.{AllByRecursion, AllPass, filter, list_any}
 use Rattle.fk_base.specs.Characters.{is_word_byte}
 use Rattle.fk_trace.specs.declared.change.OpenRecord.{OpenRecord}
 use Rattle.fk_trace.specs.declared.change.Change.{Change}
-use Rattle.fk_trace.specs.declared.change.Change.TheVariants.{Open, Done}
+use Rattle.fk_trace.specs.declared.change.Change.TheVariants.{Open, Done, Settled, Floor}
 use Rattle.std.specs.Cmp.Lexicographic.{pointwise}
-use Rattle.fk_trace.specs.Ledger.{live, IsLedger}
+use Rattle.fk_trace.specs.Ledger.{live, next_id, floor_of, IsLedger}
 use Rattle.fk_journal.specs.Entries.{Content, place_behind}
 use Rattle.fk_ledger.specs.declared.ledger.Ledger.TheInside.{Inside}
 use Rattle.fk_ledger.specs.Book.{Book, used}
@@ -24,9 +24,11 @@ book_of ledger = record {
   is_spent = ledger.journal.is_spent;
 }
 
--- the journal and the count are those of the changes, and there is room for the Done of each live record
+-- the journal, the count, the next number and the floor are those of the changes, and there is room for the Done of each live record
 pub record IsInOrder (ledger : Inside) : Type 0 where
   pub live : ledger.live ≡ length (live ledger.changes.items)
+  pub next : ledger.next ≡ next_id ledger.changes.items
+  pub floor : ledger.floor ≡ floor_of ledger.changes.items
   pub used : used ledger.changes.items ≡ ledger.journal.end + 1
   pub room : length ledger.changes.items + ledger.live ≤ vec_capacity ledger.changes
   pub reserved : 8 ≤ ledger.journal.reserved
@@ -57,18 +59,26 @@ pub record IsCommandWord (word : List ℕ) : Type 0 where
 abbrev pub has_digest : List ℕ → Change → Bool
 has_digest digest (Open item) = pointwise nat_eq item.digest.0 digest
 has_digest digest (Done id) = false
+has_digest digest (Settled id stamp other) = pointwise nat_eq other.0 digest
+has_digest digest (Floor floor next) = false
 
-abbrev pub is_open : Change → Bool
-is_open (Open item) = true
-is_open (Done id) = false
+abbrev pub is_below : ℕ → Change → Bool
+is_below id (Open item) = nat_lt item.id id
+is_below id (Done done) = true
+is_below id (Settled settled stamp digest) = nat_lt settled id
+is_below id (Floor floor next) = true
 
 abbrev pub opens_id : ℕ → Change → Bool
 opens_id id (Open item) = item.id == id
 opens_id id (Done done) = false
+opens_id id (Settled settled stamp digest) = false
+opens_id id (Floor floor next) = false
 
 abbrev pub settles_id : ℕ → Change → Bool
 settles_id id (Open item) = false
 settles_id id (Done done) = done == id
+settles_id id (Settled settled stamp digest) = false
+settles_id id (Floor floor next) = false
 
 -- the numbers of those of these records that no change of the ledger settles
 abbrev pub ids_of : List Change → List OpenRecord → List ℕ

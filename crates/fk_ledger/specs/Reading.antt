@@ -53,9 +53,17 @@ unfoldable pub head_at : List ℕ → Option (Head × List ℕ)
 head_at bytes = do
   id ← number_at w64 bytes
   digest ← piece_at 32 id.1
-  moment ← number_at w64 digest.1
+  stamp ← number_at w64 digest.1
+  moment ← number_at w64 stamp.1
   due ← number_at w64 moment.1
   ip ← number_at w32 due.1
   proto ← byte_at ip.1
   port ← number_at w16 proto.1
-  Some (record { id = id.0; digest = digest.0; moment = moment.0; due = due.0; ip = ip.0; proto = proto.0; port = port.0 }, port.1)
+  Some (record { id = id.0; digest = digest.0; stamp = stamp.0; moment = moment.0; due = due.0; ip = ip.0; proto = proto.0; port = port.0 }, port.1)
+
+-- two numbers
+unfoldable pub pair_at : List ℕ → Option ((ℕ × ℕ) × List ℕ)
+pair_at bytes = do
+  first ← number_at w64 bytes
+  second ← number_at w64 first.1
+  Some ((first.0, second.0), second.1)

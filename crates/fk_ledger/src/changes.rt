@@ -1,14 +1,14 @@
 //! Lists of changes: read from a journal's entries, and asked for what they say.
-ghost use Rattle.std.specs.Prelude.{◌≡◌, ◌↔◌, ℕ, ◌==◌, ◌≤◌, [], ◌∷◌, length, count_by, IfOk, IsErrOf, IsTrue};
+ghost use Rattle.std.specs.Prelude.{◌≡◌, ◌↔◌, ℕ, ◌==◌, ◌<◌, ◌^◌, [], ◌∷◌, IfOk, IsErrOf, IsTrue};
 ghost use Rattle.std.specs.List.{find, list_any};
 ghost use Rattle.std.specs.Option.{option_copied, option_to_list};
-ghost use Rattle.fk_trace.specs.Ledger.{live, opens, next_id, MayFollow};
+ghost use Rattle.fk_trace.specs.Ledger.{live, opens, floor_by, floor_of, first_free, next_by, next_id, IsNumber, IsSeen, MayFollow};
 ghost use Rattle.fk_journal.specs.Entries.{ArePlacedFrom, content_of_entry, contents_of};
 ghost use Rattle.fk_journal.specs.declared.fault.JournalErr.TheVariants.{Disk as DiskFails};
 ghost use Rattle.fk_ledger.specs.Book.{live_ids};
 ghost use Rattle.fk_ledger.specs.Holds.{IsBroken};
 ghost use Rattle.fk_ledger.specs.Payloads.{content_of, IsChange};
-ghost use Rattle.fk_ledger.specs.Private.{AreLedger, BreakAt, has_digest, ids_of, is_open, opens_id, settles_id};
+ghost use Rattle.fk_ledger.specs.Private.{AreLedger, BreakAt, has_digest, ids_of, is_below, opens_id, settles_id};
 
 use crate::reading::{PayloadErr, change_in};
 use crate::{LedgerErr, Owed};
@@ -21,6 +21,7 @@ use std::alloc::{AllocError, Global};
 pub(crate) fn changes_of(alloc: Global, entries: &[Entry]) -> Result<Vec<Change>, LedgerErr>
     requires { ArePlacedFrom 1 entries.now }
     ensures held { IfOk result (λ changes. AreLedger (contents_of entries.now) changes.items) }
+    ensures numbers { IfOk result (λ changes. next_id changes.items < 2 ^ 64) }
     ensures damaged { (place : ℕ) → IsErrOf result (LedgerErr.Damaged place) → BreakAt (contents_of entries.now) place }
     ensures other { IsErrOf result DiskFails → ⊥ }
 {
@@ -33,6 +34,7 @@ pub(crate) fn changes_of(alloc: Global, entries: &[Entry]) -> Result<Vec<Change>
 
 /// The change that the entry says, where it may stand behind the others.
 fn next_change(alloc: Global, changes: &[Change], entry: &Entry) -> Result<Change, LedgerErr>
+    requires { next_id changes.now < 2 ^ 64 }
     ensures found { IfOk result (λ change. IsChange change × (content_of_entry entry.now ≡ content_of change) × MayFollow changes.now change) }
     ensures damaged { (place : ℕ) → IsErrOf result (LedgerErr.Damaged place) → (place ≡ entry.now.place) × IsBroken changes.now (content_of_entry entry.now) }
     ensures other { IsErrOf result DiskFails → ⊥ }
@@ -52,11 +54,51 @@ fn next_change(alloc: Global, changes: &[Change], entry: &Entry) -> Result<Chang
 
 /// Whether the change may stand behind the others.
 fn may_follow(changes: &[Change], change: &Change) -> bool
+    requires { next_id changes.now < 2 ^ 64 }
     ensures { IsTrue result ↔ MayFollow changes.now change.now }
 {
     match change {
-        Change::Open(item) => item.id == next_id(changes) && !is_seen(changes, &item.digest),
+        Change::Open(item) => is_new(changes, item.id, &item.digest),
         Change::Done(id) => live_record(changes, *id).is_some(),
+        Change::Settled { id, digest, .. } => is_new(changes, *id, digest),
+        Change::Floor { .. } => changes.is_empty(),
+    }
+}
+
+/// Whether a record may have this number and digest.
+fn is_new(changes: &[Change], id: u64, digest: &Digest) -> bool
+    requires { next_id changes.now < 2 ^ 64 }
+    ensures { IsTrue result ↔ (IsNumber changes.now id × (IsSeen digest.now.0 changes.now → ⊥)) }
+{
+    is_number(changes, id) && !is_seen(changes, digest)
+}
+
+/// Whether a record may have this number.
+fn is_number(changes: &[Change], id: u64) -> bool
+    requires { next_id changes.now < 2 ^ 64 }
+    ensures { IsTrue result ↔ IsNumber changes.now id }
+{
+    changes.iter().all(|change| is_below(change, id))
+        && (id < first_free(changes) || id == next_id(changes))
+}
+
+fn is_below(change: &Change, id: u64) -> bool
+    ensures { result ≡ is_below id change.now }
+{
+    match change {
+        Change::Open(item) => item.id < id,
+        Change::Settled { id: settled, .. } => *settled < id,
+        Change::Done(_) | Change::Floor { .. } => true,
+    }
+}
+
+/// The first number that was free where the ledger began.
+fn first_free(changes: &[Change]) -> u64
+    ensures { result ≡ first_free changes.now }
+{
+    match changes.first() {
+        Some(Change::Floor { next, .. }) => *next,
+        _ => 1,
     }
 }
 
@@ -72,30 +114,53 @@ fn has_digest(change: &Change, digest: &Digest) -> bool
 {
     match change {
         Change::Open(item) => item.digest == *digest,
-        Change::Done(_) => false,
+        Change::Settled { digest: other, .. } => *other == *digest,
+        Change::Done(_) | Change::Floor { .. } => false,
     }
 }
 
 /// The number of the next record.
 pub(crate) fn next_id(changes: &[Change]) -> u64
+    requires { next_id changes.now < 2 ^ 64 }
     ensures { result ≡ next_id changes.now }
 {
-    1 + count_opens(changes) as u64
+    let mut next = 1;
+    for change in changes {
+        next = next_by(change, next);
+    }
+    next
 }
 
-fn count_opens(changes: &[Change]) -> usize
-    ensures count { result ≡ count_by is_open changes.now }
-    ensures bound { result ≤ length changes.now }
-{
-    changes.iter().filter(|change| is_open(change)).count()
-}
-
-fn is_open(change: &Change) -> bool
-    ensures { result ≡ is_open change.now }
+/// The number of the next record after the change, where it was this one before it.
+fn next_by(change: &Change, next: u64) -> u64
+    requires { next_by change.now next < 2 ^ 64 }
+    ensures { result ≡ next_by change.now next }
 {
     match change {
-        Change::Open(_) => true,
-        Change::Done(_) => false,
+        Change::Open(item) => next.max(item.id + 1),
+        Change::Done(_) => next,
+        Change::Settled { id, .. } => next.max(*id + 1),
+        Change::Floor { next: first, .. } => next.max(*first),
+    }
+}
+
+/// The floor.
+pub(crate) fn floor_of(changes: &[Change]) -> u64
+    ensures { result ≡ floor_of changes.now }
+{
+    let mut lower = 0;
+    for change in changes {
+        lower = floor_by(change, lower);
+    }
+    lower
+}
+
+fn floor_by(change: &Change, lower: u64) -> u64
+    ensures { result ≡ floor_by change.now lower }
+{
+    match change {
+        Change::Floor { floor, .. } => *floor,
+        _ => lower,
     }
 }
 
@@ -108,7 +173,7 @@ pub(crate) fn live_record(changes: &[Change], id: u64) -> Option<&OpenRecord>
     }
     match opening(changes, id)? {
         Change::Open(item) => Some(item),
-        Change::Done(_) => None,
+        _ => None,
     }
 }
 
@@ -124,7 +189,7 @@ fn opens_id(change: &Change, id: u64) -> bool
 {
     match change {
         Change::Open(item) => item.id == id,
-        Change::Done(_) => false,
+        _ => false,
     }
 }
 
@@ -139,8 +204,8 @@ fn settles_id(change: &Change, id: u64) -> bool
     ensures { result ≡ settles_id id change.now }
 {
     match change {
-        Change::Open(_) => false,
         Change::Done(done) => *done == id,
+        _ => false,
     }
 }
 

@@ -1,4 +1,4 @@
-ghost use Rattle.std.specs.Prelude.{◌≡◌, ◌↔◌, ℕ, ◌+◌, ◌==◌, ◌<◌, ◌≤◌, List, [], ◌∷◌, true, false, is_ok, length, IfErr, IfOk, IsErrOf, OnErr, OnOk};
+ghost use Rattle.std.specs.Prelude.{◌≡◌, ◌↔◌, ℕ, ◌+◌, ◌==◌, ◌<◌, ◌≤◌, List, [], ◌∷◌, true, false, None, is_ok, length, IfErr, IfOk, IsErrOf, OnErr, OnOk};
 ghost use Rattle.std.specs.List.{find, Contains};
 ghost use Rattle.std.specs.List.Sorted.{IsPermutation};
 ghost use Rattle.std.specs.Option.{option_copied};
@@ -7,15 +7,18 @@ ghost use Rattle.fk_host.specs.Count.{HasCauseBy};
 ghost use Rattle.fk_host.specs.Disk.{IfTold, LeavesAreas, LeavesHost};
 ghost use Rattle.fk_trace.specs.declared.change.Change.{Change};
 ghost use Rattle.fk_trace.specs.declared.change.Change.TheVariants.{Open, Done};
-ghost use Rattle.fk_trace.specs.Ledger.{after, live, is_seen, next_id, MayFollow};
+ghost use Rattle.fk_trace.specs.Ledger.{after, live, is_seen, floor_of, next_id, MayMake, IsLedger};
+ghost use Rattle.fk_trace.specs.Decision.{making};
 ghost use Rattle.fk_journal.specs.Entries.{area_bytes};
 ghost use Rattle.fk_journal.specs.Keeps.{selected, StandsOn, IsOpening, LeavesOthers, is_disk_fault};
-ghost use Rattle.fk_ledger.specs.Book.{has_room, live_ids, is_disk_record_fault};
+ghost use Rattle.fk_ledger.specs.Book.{room_of, live_ids, is_disk_record_fault};
 ghost use Rattle.fk_ledger.specs.Holds.{HoldsLedger, IsLedgerDamagedAt, KeepsLedger};
-ghost use Rattle.fk_ledger.specs.Payloads.{record_bytes};
+ghost use Rattle.fk_ledger.specs.Payloads.{greatest_stamp, record_bytes};
 ghost use Rattle.fk_ledger.specs.Stretch.{StretchOf, IsLedgerOpening};
 
-use crate::changes::{changes_of, is_seen, live_ids, live_record, next_id, owed_of, spend_all};
+use crate::changes::{
+    changes_of, floor_of, is_seen, live_ids, live_record, next_id, owed_of, spend_all,
+};
 use crate::writing::{record_len, write_record};
 use crate::{LedgerErr, Owed, RecordFault};
 use fk_base::{Digest, Failed, NoMemory};
@@ -26,6 +29,9 @@ use fk_trace::{Change, OpenRecord};
 use std::alloc::Global;
 use std::marker::Model;
 
+/// The number of each record is below it.
+const NUMBERS_END: u64 = 9_223_372_036_854_775_808;
+
 /// A ledger on a journal of the disk, which nobody else writes.
 #[derive(Drop)]
 pub struct Ledger {
@@ -33,6 +39,8 @@ pub struct Ledger {
     // with room for a Done of each live record
     changes: Vec<Change>,
     live: usize,
+    next: u64,
+    floor: u64,
     limit: u32,
     // the payload of a record as it is written: cleared before each
     payload: Vec<u8>,
@@ -82,12 +90,16 @@ impl Ledger {
         let (journal, entries) = Journal::open(alloc, disk, room)?;
         let mut changes = changes_of(alloc, &entries)?;
         let ids = live_ids(alloc, &changes)?;
+        let next = next_id(&changes);
+        let floor = floor_of(&changes);
         changes.reserve(ids.len())?;
         let owed = owed_of(alloc, &ids)?;
         let ledger = Ledger {
             journal,
             changes,
             live: ids.len(),
+            next,
+            floor,
             limit: live,
             payload: Vec::new(alloc),
         };
@@ -119,7 +131,14 @@ impl Ledger {
     pub fn next_id(&self) -> u64
         ensures { result ≡ next_id self.now.changes }
     {
-        next_id(&self.changes)
+        self.next
+    }
+
+    /// The floor: packets with a stamp below it are refused, since their digests may be gone.
+    pub fn floor(&self) -> u64
+        ensures { result ≡ floor_of self.now.changes }
+    {
+        self.floor
     }
 
     /// How many records are live.
@@ -161,14 +180,15 @@ impl Ledger {
     /// Records a granted datagram on the disk, by four calls. What is owed for it is its close.
     pub fn record<D: Disk>(&mut self, disk: &mut D, item: OpenRecord) -> Result<Owed, RecordFault>
         requires unspent { self.old.is_spent ≡ false }
-        requires next { MayFollow self.old.changes (Open item) }
+        requires next { MayMake self.old.changes (Open item) }
+        requires stamp { (floor_of self.old.changes ≤ item.stamp) × (item.stamp ≤ greatest_stamp) }
         requires words { AreCommandWords item.close }
         requires reserved { length (record_bytes item) ≤ self.old.reserved }
         requires keeps { KeepsLedger self.old.changes (D.told disk.old) (D.may_leave disk.old) }
         requires stands { StandsOn self.old.area (D.told disk.old) }
         ensures ok { OnOk result (self.new ≡ record self.old { changes = after self.old.changes (Open item ∷ []); reserved = self.new.reserved }) }
         ensures owed { IfOk result (λ owed. owed ≡ item.id) }
-        ensures full { IsErrOf result RecordFault.Full ↔ (has_room self.old.room self.old.limit self.old.changes item ≡ false) }
+        ensures full { IsErrOf result RecordFault.Full ↔ (making (room_of self.old) self.old.changes (Open item) ≡ None) }
         ensures nothing { IsErrOf result RecordFault.Full → (self.new ≡ self.old) × (disk.new ≡ disk.old) }
         ensures spent { IsErrOf result RecordFault.Disk → self.new ≡ record self.old { is_spent = true } }
         ensures keeps { OnOk result (KeepsLedger self.new.changes (D.told disk.new) (D.may_leave disk.new)) }
@@ -187,6 +207,7 @@ impl Ledger {
         match self.journal.append(disk, 1, &self.payload) {
             Ok(()) => {
                 let owed = Owed::new(item.id);
+                self.next = item.id + 1;
                 self.changes.push_reserved(Change::Open(item));
                 self.live += 1;
                 Ok(owed)
@@ -238,11 +259,14 @@ impl Ledger {
     }
 
     fn has_room(&self, item: &OpenRecord) -> bool
-        requires { AreCommandWords item.now.close }
-        ensures { result ≡ has_room self.now.room self.now.limit self.now.changes item.now }
+        requires words { AreCommandWords item.now.close }
+        requires next { MayMake self.now.changes (Open item.now) }
+        requires follow { IsLedger self.now.changes }
+        ensures { (result ≡ false) ↔ (making (room_of self.now) self.now.changes (Open item.now) ≡ None) }
     {
         let live = self.live as u64;
         live < u64::from(self.limit)
+            && self.next < NUMBERS_END
             && 6 + record_len(item) as u64 + 14 * (live + 1) <= self.journal.room()
     }
 }

@@ -1,18 +1,26 @@
-//! Payloads as they are read: a record or the number of a Done.
+//! Payloads as they are read.
 ghost use Rattle.std.specs.Prelude.{◌≡◌, ℕ, ◌↔◌, ◌∷◌, ◌^◌, ◌<◌, length, IfOk, IfSome, IsErrOf, IsNone, IsTrue};
 ghost use Rattle.std.specs.Int.{w16, w32, w64};
 ghost use Rattle.std.specs.Option.{option_map};
 ghost use Rattle.fk_base.specs.CommandWords.{AreCommandWords};
 ghost use Rattle.fk_journal.specs.Entries.{Content};
+ghost use Rattle.fk_base.specs.declared.digest.Digest.{Digest};
 ghost use Rattle.fk_trace.specs.declared.change.Change.{Change};
+ghost use Rattle.fk_trace.specs.declared.change.Change.TheVariants.{Settled, Floor};
 ghost use Rattle.fk_trace.specs.declared.change.OpenRecord.{OpenRecord};
-ghost use Rattle.fk_ledger.specs.Payloads.{content_of, proto_number, record_bytes, IsChange, IsRecord};
+ghost use Rattle.fk_ledger.specs.Payloads.{content_of, floor_bytes, proto_number, record_bytes, settled_bytes, IsChange, IsRecord};
 ghost use Rattle.fk_ledger.specs.Private.{IsCommandWord};
-ghost use Rattle.fk_ledger.specs.Reading.{Gives, number_at, byte_at, word_at, texts_at, words_in, head_at};
+ghost use Rattle.fk_ledger.specs.Reading.{Gives, number_at, byte_at, word_at, texts_at, words_in, head_at, pair_at};
 
 use fk_base::{Digest, Ip4, Moment, Pair, Proto, Words};
 use fk_trace::{Change, OpenRecord};
 use std::alloc::Global;
+
+/// The greatest stamp that a record has.
+const GREATEST_STAMP: u64 = 1_000_031_535_999;
+
+/// The greatest number that a Floor gives to the next record.
+const GREATEST_NEXT: u64 = 9_223_372_036_854_775_808;
 
 /// Why a payload is not read.
 #[derive(Drop)]
@@ -36,6 +44,7 @@ impl From<fk_base::NoMemory> for PayloadErr {
 struct Head {
     id: u64,
     digest: [u8; 32],
+    stamp: u64,
     moment: u64,
     due: u64,
     ip: u32,
@@ -55,8 +64,44 @@ pub(crate) fn change_in(alloc: Global, kind: u8, payload: &[u8]) -> Result<Chang
             Some((id, [])) => Ok(Change::Done(id)),
             _ => Err(PayloadErr::Malformed),
         },
+        3 => settled_in(payload).ok_or(PayloadErr::Malformed),
+        4 => floor_in(payload).ok_or(PayloadErr::Malformed),
         _ => Err(PayloadErr::Malformed),
     }
+}
+
+/// The Settled that a payload says.
+fn settled_in(payload: &[u8]) -> Option<Change>
+    ensures found { IfSome result (λ change. IsChange change × (record { kind = 3; payload = payload.now } ≡ content_of change)) }
+    ensures none { IsNone result → (id stamp : ℕ) (digest : Digest) → IsChange (Settled id stamp digest)
+        → payload.now ≡ settled_bytes id stamp digest → ⊥ }
+{
+    let (id, stamp, rest) = pair_at(payload)?;
+    let (digest, []) = rest.split_first_chunk::<32>()? else {
+        return None;
+    };
+    if stamp > GREATEST_STAMP {
+        return None;
+    }
+    Some(Change::Settled {
+        id,
+        stamp,
+        digest: Digest(*digest),
+    })
+}
+
+/// The Floor that a payload says.
+fn floor_in(payload: &[u8]) -> Option<Change>
+    ensures found { IfSome result (λ change. IsChange change × (record { kind = 4; payload = payload.now } ≡ content_of change)) }
+    ensures none { IsNone result → (floor next : ℕ) → IsChange (Floor floor next) → payload.now ≡ floor_bytes floor next → ⊥ }
+{
+    let (floor, next, []) = pair_at(payload)? else {
+        return None;
+    };
+    if next < 1 || next > GREATEST_NEXT {
+        return None;
+    }
+    Some(Change::Floor { floor, next })
 }
 
 /// The record that a payload says.
@@ -73,6 +118,9 @@ fn record_in(alloc: Global, payload: &[u8]) -> Result<OpenRecord, PayloadErr>
     let Some(pair) = pair_of(head.proto, head.port) else {
         return Err(PayloadErr::Malformed);
     };
+    if head.stamp > GREATEST_STAMP {
+        return Err(PayloadErr::Malformed);
+    }
     let close = words_in(alloc, rest)?;
     if !are_command_words(&close) {
         return Err(PayloadErr::Malformed);
@@ -80,6 +128,7 @@ fn record_in(alloc: Global, payload: &[u8]) -> Result<OpenRecord, PayloadErr>
     Ok(OpenRecord {
         id: head.id,
         digest: Digest(head.digest),
+        stamp: head.stamp,
         moment,
         due: head.due,
         ip: Ip4(head.ip),
@@ -105,6 +154,7 @@ fn head_at(bytes: &[u8]) -> Option<(Head, &[u8])>
 {
     let (id, rest) = u64_at(bytes)?;
     let (digest, rest) = rest.split_first_chunk::<32>()?;
+    let (stamp, rest) = u64_at(rest)?;
     let (moment, rest) = u64_at(rest)?;
     let (due, rest) = u64_at(rest)?;
     let (ip, rest) = u32_at(rest)?;
@@ -113,6 +163,7 @@ fn head_at(bytes: &[u8]) -> Option<(Head, &[u8])>
     let head = Head {
         id,
         digest: *digest,
+        stamp,
         moment,
         due,
         ip,
@@ -162,6 +213,15 @@ fn word_at(bytes: &[u8]) -> Option<(&[u8], &[u8])>
         return None;
     }
     Some(rest.split_at(size))
+}
+
+#[tactic(auto, unfolding(crate::specs::Reading::pair_at))]
+fn pair_at(bytes: &[u8]) -> Option<(u64, u64, &[u8])>
+    ensures { option_map (λ x. ((x.0, x.1), x.2.now)) result ≡ pair_at bytes.now }
+{
+    let (first, rest) = u64_at(bytes)?;
+    let (second, rest) = u64_at(rest)?;
+    Some((first, second, rest))
 }
 
 fn u64_at(bytes: &[u8]) -> Option<(u64, &[u8])>

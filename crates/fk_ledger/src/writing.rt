@@ -2,20 +2,20 @@
 ghost use Rattle.std.specs.Prelude.{◌≡◌, ◌+◌, ◌≤◌, ◌++◌, length, vec_capacity};
 ghost use Rattle.fk_base.specs.Bytes.{HasBytes, IsBytes};
 ghost use Rattle.fk_base.specs.CommandWords.{AreCommandWords};
-ghost use Rattle.fk_ledger.specs.Payloads.{proto_number, record_bytes, IsRecord, words_bytes, word_bytes};
+ghost use Rattle.fk_ledger.specs.Payloads.{greatest_stamp, proto_number, record_bytes, IsRecord, words_bytes, word_bytes};
 
 use fk_base::{Proto, Words};
 use fk_trace::OpenRecord;
 
-/// How many bytes a record's numbers take: its own, the moment, the due, the address, the protocol, the port, and how many words
+/// How many bytes a record's numbers take: its own, the stamp, the moment, the due, the address, the protocol, the port, and how many words
 /// there are.
-const NUMBERS_LEN: usize = 8 + 8 + 8 + 4 + 1 + 2 + 1;
+const NUMBERS_LEN: usize = 8 + 8 + 8 + 8 + 4 + 1 + 2 + 1;
 
 /// How many bytes a record's payload has.
 pub(crate) fn record_len(item: &OpenRecord) -> usize
     requires { AreCommandWords item.now.close }
     ensures len { result ≡ length (record_bytes item.now) }
-    ensures bound { result ≤ 12128 }
+    ensures bound { result ≤ 12136 }
 {
     NUMBERS_LEN + digest_len(item.digest.0) + words_len(&item.close)
 }
@@ -43,6 +43,7 @@ fn words_len(words: &Words) -> usize
 /// Writes a record's payload into the buffer, which is emptied before.
 pub(crate) fn write_record(buffer: &mut Vec<u8>, item: &OpenRecord)
     requires words { AreCommandWords item.now.close }
+    requires stamp { item.now.stamp ≤ greatest_stamp }
     requires room { length (record_bytes item.now) ≤ vec_capacity buffer.old }
     ensures bytes { buffer.new.items ≡ record_bytes item.now }
     ensures values { IsRecord item.now }
@@ -51,6 +52,7 @@ pub(crate) fn write_record(buffer: &mut Vec<u8>, item: &OpenRecord)
     buffer.clear();
     push_all(buffer, &item.id.to_be_bytes());
     push_digest(buffer, item.digest.0);
+    push_all(buffer, &item.stamp.to_be_bytes());
     push_all(buffer, &item.moment.get().to_be_bytes());
     push_all(buffer, &item.due.to_be_bytes());
     push_all(buffer, &item.ip.0.to_be_bytes());
