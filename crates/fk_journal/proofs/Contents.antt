@@ -32,7 +32,7 @@ none_bare bytes bare content gate more one is =
     omega (arith, bare, ap length (body_split bytes content gate more is).1, length-append (content.kind ∷ content.payload) (gate ∷ more))
 
 pub none_wrong : (bytes rest : List ℕ) (kind size : ℕ) → drop 4 bytes ≡ kind ∷ rest → size ≡ from_be_bytes w32 (take 4 bytes)
-    → ((kind ≢ 1) × (kind ≢ 2)) ⊎ (length rest ≤ size) → NoContent bytes
+    → ((kind < 1) ⊎ (4 < kind)) ⊎ (length rest ≤ size) → NoContent bytes
 none_wrong bytes rest kind size rest_is size_is wrong content gate more one is =
     let parts = body_split bytes content gate more is in
     let same : kind ∷ rest ≡ content.kind ∷ content.payload ++ gate ∷ more = sym rest_is ∙ parts.1 in
@@ -40,7 +40,7 @@ none_wrong bytes rest kind size rest_is size_is wrong content gate more one is =
     let rests : rest ≡ content.payload ++ gate ∷ more = cc in
     let sizes : size ≡ length content.payload = size_is ∙ ap (from_be_bytes w32) parts.0 ∙ from_be_bytes-to_be_bytes_4 (length content.payload) one.size in
     elim wrong [
-      | inl kinds_wrong ↦ elim one.kind [ inl first ↦ kinds_wrong.0 (kinds ∙ first) | inr second ↦ kinds_wrong.1 (kinds ∙ second) ]
+      | inl kinds_wrong ↦ elim kinds_wrong [ inl low ↦ omega (arith, low, kinds, one.kind.0) | inr high ↦ omega (arith, high, kinds, one.kind.1) ]
       | inr short ↦ omega (arith, short, sizes, ap length rests, length-append content.payload (gate ∷ more))
     ]
 
@@ -82,7 +82,7 @@ next_entry contents content bytes at gate more at_is inside begins is_open one b
       record {
         each = all-push contents content begins.each one;
         bytes = begins.bytes ∙ ap (λ r. front contents ++ r) here ∙ sym (append_assoc (front contents) (entry_bytes content) (gate ∷ more))
-            ∙ ap (λ es. (1 ∷ es) ++ gate ∷ more) (sym (entries-push contents content))
+            ∙ ap (λ es. (format_byte ∷ es) ++ gate ∷ more) (sym (entries-push contents content))
             ∙ ap (λ r. front (contents ++ content ∷ []) ++ r) (sym next);
       },
       omega (arith, ap length next, length-drop (at + (6 + length content.payload)) bytes),

@@ -59,14 +59,14 @@ write_either (Ok x) used at bytes s t a b ok err = told_once used (Written at by
 write_either (Err e) used at bytes s t a b ok err = told_once used (Torn at (length bytes)) (Torn at (length bytes)) s t a b err
 
 -- the area was emptied, and has the format byte
-emptied : (old middle new : List ℕ) → middle ≡ take 0 old → Written 0 (1 ∷ []) middle new → new ≡ 1 ∷ []
-emptied old middle new cut written = written ∙ ap (λ (bytes : List ℕ). (1 ∷ []) ++ drop 1 bytes) cut
+emptied : (old middle new : List ℕ) → middle ≡ take 0 old → Written 0 (2 ∷ []) middle new → new ≡ 2 ∷ []
+emptied old middle new cut written = written ∙ ap (λ (bytes : List ℕ). (2 ∷ []) ++ drop 1 bytes) cut
 
 pub told_emptied : (used : Area) (Leaves More : List ℕ → List ℕ → Type 0) (s t u : Option Told) (a b c : ℕ → Areas → Type 0) → IfTold s t (Passes (InArea used (λ old new. new ≡ take 0 old)) (InArea used Leaves) a b)
-    → IfTold t u (Passes (InArea used (Written 0 (1 ∷ []))) (InArea used More) b c) → IfTold s u (λ before after. area_of used after.areas ≡ 1 ∷ [])
+    → IfTold t u (Passes (InArea used (Written 0 (2 ∷ []))) (InArea used More) b c) → IfTold s u (λ before after. area_of used after.areas ≡ 2 ∷ [])
 told_emptied used Leaves More s t u a b c first second =
-    if_told_then s t u (Passes (InArea used (λ old new. new ≡ take 0 old)) (InArea used Leaves) a b) (Passes (InArea used (Written 0 (1 ∷ []))) (InArea used More) b c) (λ x z. area_of used z.areas ≡ 1 ∷ [])
-    (λ x y z p q. emptied (area_of used x.areas) (area_of used y.areas) (area_of used z.areas) (in_used used (λ old new. new ≡ take 0 old) x.areas y.areas p.reads) (in_used used (Written 0 (1 ∷ [])) y.areas z.areas q.reads)) first second
+    if_told_then s t u (Passes (InArea used (λ old new. new ≡ take 0 old)) (InArea used Leaves) a b) (Passes (InArea used (Written 0 (2 ∷ []))) (InArea used More) b c) (λ x z. area_of used z.areas ≡ 2 ∷ [])
+    (λ x y z p q. emptied (area_of used x.areas) (area_of used y.areas) (area_of used z.areas) (in_used used (λ old new. new ≡ take 0 old) x.areas y.areas p.reads) (in_used used (Written 0 (2 ∷ [])) y.areas z.areas q.reads)) first second
 
 -- what is written at the end stands behind all of it
 pub written_end : (at : ℕ) (bytes old new : List ℕ) → at ≡ length old → Written at bytes old new → new ≡ old ++ bytes
@@ -142,16 +142,16 @@ told_others log used calls s t a b same touches =
 
 -- ---- what was copied
 
-pub first_copied : (log : Log) (used : Area) (s t : Option Told) → used ≡ other_area log.area → IfTold s t (λ before after. area_of used after.areas ≡ 1 ∷ []) → IsCopied log.area [] t
+pub first_copied : (log : Log) (used : Area) (s t : Option Told) → used ≡ other_area log.area → IfTold s t (λ before after. area_of used after.areas ≡ 2 ∷ []) → IsCopied log.area [] t
 first_copied log used s t same made =
-    if_told_new s t (λ x y. area_of (other_area log.area) y.areas ≡ 1 ∷ []) (λ now. BeginsWith format_byte [] [] (area_of (other_area log.area) now.areas))
-    (λ x y is. record { each = tt; bytes = is }) (subst (λ (area : Area). IfTold s t (λ x y. area_of area y.areas ≡ 1 ∷ [])) same made)
+    if_told_new s t (λ x y. area_of (other_area log.area) y.areas ≡ 2 ∷ []) (λ now. BeginsWith format_byte [] [] (area_of (other_area log.area) now.areas))
+    (λ x y is. record { each = tt; bytes = is }) (subst (λ (area : Area). IfTold s t (λ x y. area_of area y.areas ≡ 2 ∷ [])) same made)
 
 copied_push : (copied : List Content) (content : Content) (old new : List ℕ) → IsContent content → BeginsWith format_byte copied [] old → new ≡ old ++ entry_bytes content → BeginsWith format_byte (copied ++ content ∷ []) [] new
 copied_push copied content old new one begins is = record {
   each = all-push copied content begins.each one;
   bytes = is ∙ ap (λ (bytes : List ℕ). bytes ++ entry_bytes content) (begins.bytes ∙ append-nil (front copied))
-      ∙ ap (λ (bytes : List ℕ). 1 ∷ bytes) (sym (entries-push copied content)) ∙ sym (append-nil (front (copied ++ content ∷ [])));
+      ∙ ap (λ (bytes : List ℕ). format_byte ∷ bytes) (sym (entries-push copied content)) ∙ sym (append-nil (front (copied ++ content ∷ [])));
 }
 
 pub next_copied : (log : Log) (used : Area) (copied : List Content) (content : Content) (s t : Option Told) → used ≡ other_area log.area → IsContent content → IsCopied log.area copied s

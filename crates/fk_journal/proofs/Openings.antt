@@ -129,8 +129,8 @@ others_made area a b c x y z at count read puts =
     (others_then area a b c x y z read.left.later read.left.past puts.past (others_left area a b x y read.left) (others_put area at count b c y z puts))
 
 -- what was made is an empty journal
-pub made_empty : (old new : List ℕ) → length old < 3 → Written 0 (1 ∷ 0 ∷ []) old new → new ≡ area_bytes []
-made_empty old new short written = written ∙ ap (λ rest. 1 ∷ 0 ∷ rest) (drop_all 2 old (omega arith))
+pub made_empty : (old new : List ℕ) → length old < 3 → Written 0 (2 ∷ 0 ∷ []) old new → new ≡ area_bytes []
+made_empty old new short written = written ∙ ap (λ rest. 2 ∷ 0 ∷ rest) (drop_all 2 old (omega arith))
 
 pub empty_closed : IsClosedBehind [] (area_bytes [])
 empty_closed = (0, [], omega arith, record { each = tt; bytes = refl })
@@ -210,27 +210,27 @@ made_others area s t u a b c bytes first second =
 
 -- where the write and its sync have ended well
 abbrev pub IsMade : Area → (ℕ → Areas → Type 0) → (ℕ → Areas → Type 0) → Told → Told → Type 0
-IsMade area b c y z = Puts area 0 2 b c y z × HasPut area 0 (1 ∷ 0 ∷ []) c y z
+IsMade area b c y z = Puts area 0 2 b c y z × HasPut area 0 (2 ∷ 0 ∷ []) c y z
 
 made_one : (area : Area) (a b c : ℕ → Areas → Type 0) (bytes : List ℕ) (x y z : Told) → length bytes < 3 → IsRead area bytes a b x y → IsMade area b c y z → IsHeldNow area [] z c × (selected z.areas ≡ area_bytes [])
 made_one area a b c bytes x y z short read made =
     let is : selected_area y.areas ≡ area = ap selected_area read.1.left.reads ∙ sym read.1.selects in
     let shorter : length (selected y.areas) < 3 = subst (λ (areas : Areas). length (selected areas) < 3) (sym read.1.left.reads) (subst (λ (w : List ℕ). length w < 3) read.0 short) in
-    let empty : selected z.areas ≡ area_bytes [] = made_empty (selected y.areas) (selected z.areas) shorter (step_selected area (Written 0 (1 ∷ 0 ∷ [])) y.areas z.areas is made.1.reads) in (
+    let empty : selected z.areas ≡ area_bytes [] = made_empty (selected y.areas) (selected z.areas) shorter (step_selected area (Written 0 (2 ∷ 0 ∷ [])) y.areas z.areas is made.1.reads) in (
       record {
         selects = still_selects area y.areas z.areas is made.0.others;
         closed = subst (IsClosedBehind []) (sym empty) empty_closed;
-        settled = puts_settled area 0 2 0 (1 ∷ 0 ∷ []) b c y z is read.1.settled made.0 made.1;
+        settled = puts_settled area 0 2 0 (2 ∷ 0 ∷ []) b c y z is read.1.settled made.0 made.1;
       },
       empty,
     )
 
-pub made_bytes : (area : Area) (s t u : Option Told) (a b c : ℕ → Areas → Type 0) (bytes : List ℕ) → length bytes < 3 → IfTold s t (IsRead area bytes a b) → IfTold t u (Puts area 0 2 b c) → IfTold t u (HasPut area 0 (1 ∷ 0 ∷ []) c)
+pub made_bytes : (area : Area) (s t u : Option Told) (a b c : ℕ → Areas → Type 0) (bytes : List ℕ) → length bytes < 3 → IfTold s t (IsRead area bytes a b) → IfTold t u (Puts area 0 2 b c) → IfTold t u (HasPut area 0 (2 ∷ 0 ∷ []) c)
     → IfTold s u (λ before after. selected after.areas ≡ area_bytes [])
 made_bytes area s t u a b c bytes short first second done =
     if_told_then s t u (IsRead area bytes a b) (IsMade area b c) _ (λ x y z p q. (made_one area a b c bytes x y z short p q).1) first (if_told_both t u _ _ second done)
 
-pub made_held : (area : Area) (s t u : Option Told) (a b c : ℕ → Areas → Type 0) (bytes : List ℕ) → length bytes < 3 → IfTold s t (IsRead area bytes a b) → IfTold t u (Puts area 0 2 b c) → IfTold t u (HasPut area 0 (1 ∷ 0 ∷ []) c) → IsHeld area [] u c
+pub made_held : (area : Area) (s t u : Option Told) (a b c : ℕ → Areas → Type 0) (bytes : List ℕ) → length bytes < 3 → IfTold s t (IsRead area bytes a b) → IfTold t u (Puts area 0 2 b c) → IfTold t u (HasPut area 0 (2 ∷ 0 ∷ []) c) → IsHeld area [] u c
 made_held area s t u a b c bytes short first second done =
     if_told_new s u (λ before after. IsHeldNow area [] after c) (λ now. IsHeldNow area [] now c) (λ x z p. p)
     (if_told_then s t u (IsRead area bytes a b) (IsMade area b c) _ (λ x y z p q. (made_one area a b c bytes x y z short p q).0) first (if_told_both t u _ _ second done))

@@ -10,13 +10,13 @@ two_entries = record { kind = 1; payload = 7 ∷ [] } ∷ record { kind = 2; pay
 
 -- Head `01`, an empty journal in One, and two entries in Two
 abbrev copied : Areas
-copied = record { head = 1 ∷ []; one = 1 ∷ 0 ∷ []; two = area_bytes two_entries }
+copied = record { head = 1 ∷ []; one = 2 ∷ 0 ∷ []; two = area_bytes two_entries }
 
-selected_row : selected copied ≡ 1 ∷ 1 ∷ 0 ∷ 0 ∷ 0 ∷ 1 ∷ 1 ∷ 7 ∷ 1 ∷ 0 ∷ 0 ∷ 0 ∷ 0 ∷ 2 ∷ 0 ∷ []
+selected_row : selected copied ≡ 2 ∷ 1 ∷ 0 ∷ 0 ∷ 0 ∷ 1 ∷ 1 ∷ 7 ∷ 1 ∷ 0 ∷ 0 ∷ 0 ∷ 0 ∷ 2 ∷ 0 ∷ []
 selected_row = refl
 
 -- the same with Head empty, `02`, and `ff 00`
-empty_row : selected (record copied { head = [] }) ≡ 1 ∷ 0 ∷ []
+empty_row : selected (record copied { head = [] }) ≡ 2 ∷ 0 ∷ []
 empty_row = refl
 
 even_row : selected_area (record copied { head = 2 ∷ [] }) ≡ One

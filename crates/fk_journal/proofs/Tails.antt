@@ -6,11 +6,11 @@ use Rattle.std.proofs.lemmas.Bool.{cases_eq, cases_lt}
 use Rattle.std.proofs.lemmas.List.{append-nil, append_assoc, length-append, length-set, ext_get_or, get_or-set_same, get_or-set_other, set_at, take_at, drop_at}
 use Rattle.std.proofs.lemmas.List.Prefix.{front_from_reads, front_reads}
 use Rattle.fk_host.specs.Disk.{Written, Torn}
-use Rattle.fk_journal.specs.Entries.{Content, IsContent, body, entry_bytes, entries_bytes, place_behind, IsClosedBehind, HoldsEntries}
+use Rattle.fk_journal.specs.Entries.{format_byte, Content, IsContent, body, entry_bytes, entries_bytes, place_behind, IsClosedBehind, HoldsEntries}
 
 -- the format byte and the entries
 abbrev pub front : List Content → List ℕ
-front contents = 1 ∷ entries_bytes contents
+front contents = format_byte ∷ entries_bytes contents
 
 pub length-front : (contents : List Content) → length (front contents) ≡ place_behind contents
 length-front contents = omega arith
@@ -92,7 +92,7 @@ opened_gate contents content more bytes all one is = (
     each = all-push contents content all one;
     bytes = is
         ∙ sym (append_assoc (front contents) (entry_bytes content) (0 ∷ more))
-        ∙ ap (λ es. (1 ∷ es) ++ 0 ∷ more) (sym (entries-push contents content));
+        ∙ ap (λ es. (format_byte ∷ es) ++ 0 ∷ more) (sym (entries-push contents content));
   },
 )
 
