@@ -1,42 +1,37 @@
 -- What is asked of a list of changes, one by one.
-use Rattle.std.proofs.Common.{◌≡◌, ℕ, suc, ◌+◌, ◌<◌, ◌==◌, nat_eq, get_or, take, Bool, true, false, not, ◌||◌, cond, List, [], ◌∷◌, ◌++◌, length, map, refl, ap, sym, ◌∙◌, arith, Option, Some, None, subst, inl, inr}
-use Rattle.std.specs.Prelude.{count_by, IsTrue, is_some}
-use Rattle.std.specs.List.{filter, list_any, find, Contains}
+use Rattle.std.proofs.Common.{◌≡◌, ℕ, suc, ◌+◌, ◌<◌, ◌≤◌, ◌==◌, nat_eq, get_or, take, Bool, true, false, not, ◌||◌, cond, List, [], ◌∷◌, ◌++◌, length, map, refl, ap, sym, ◌∙◌, arith, Option, Some, None, subst, inl, inr}
+use Rattle.std.specs.Prelude.{nat_lt, ◌&&◌, IsTrue, is_some}
+use Rattle.std.specs.List.{filter, list_any, list_all, find, All, AllByRecursion, Contains}
 use Rattle.std.specs.Option.{option_and_then, option_copied}
 use Rattle.std.specs.Cmp.Lexicographic.{pointwise}
 use Rattle.std.proofs.lemmas.Bool.Decides.{nat_tests}
 use Rattle.std.specs.Borrow.{Bor}
 use Rattle.std.proofs.lemmas.List.{map-append, take_more}
-use Rattle.std.proofs.lemmas.List.Elements.{filter-append, filter_agree}
+use Rattle.std.proofs.lemmas.List.Elements.{filter-append, filter_agree, All-from_recursion, recursion_from_All}
 use Rattle.std.proofs.lemmas.Slice.Eq.{bytes_eq-Decides}
-use Rattle.std.proofs.lemmas.List.Sums.{length-filter}
-use Rattle.fk_trace.proofs.Lists.{Contains-head, Contains-tail, Contains-cases, list_any-at}
+use Rattle.fk_trace.proofs.Lists.{Contains-head, Contains-tail, Contains-cases, Contains-map, list_any-at}
 use Rattle.fk_trace.proofs.Grants.{fresh-unseen}
 use Rattle.fk_trace.proofs.Ledgers.{opens-append}
 use Rattle.fk_ledger.specs.Book.{live_ids}
 use Rattle.fk_trace.specs.declared.change.OpenRecord.{OpenRecord}
 use Rattle.fk_trace.specs.declared.change.Change.{Change}
-use Rattle.fk_trace.specs.declared.change.Change.TheVariants.{Open, Done}
-use Rattle.fk_trace.specs.Ledger.{opened_by, opens, dones, live, seen, is_seen, next_id, MayFollow}
-use Rattle.fk_ledger.specs.Private.{has_digest, ids_of, is_open, opens_id, settles_id}
+use Rattle.fk_trace.specs.declared.change.Change.TheVariants.{Open, Done, Settled, Floor}
+use Rattle.fk_trace.specs.Ledger.{Key, opened_by, opens, dones, live, seen, is_seen, IsSeen, numbers, first_free, next_id, IsNumber, MayFollow}
+use Rattle.fk_ledger.specs.Private.{has_digest, ids_of, is_below, opens_id, settles_id}
 
 pub any_done : (ledger : List Change) (id : ℕ) → list_any (settles_id id) ledger ≡ list_any (λ done. done == id) (dones ledger)
 any_done [] id = refl
 any_done (Open item ∷ ledger) id = any_done ledger id
 any_done (Done done ∷ ledger) id = ap (λ b. done == id || b) (any_done ledger id)
+any_done (Settled settled stamp digest ∷ ledger) id = any_done ledger id
+any_done (Floor floor next ∷ ledger) id = any_done ledger id
 
 pub any_seen : (ledger : List Change) (digest : List ℕ) → list_any (has_digest digest) ledger ≡ is_seen digest ledger
 any_seen [] digest = refl
 any_seen (Open item ∷ ledger) digest = ap (λ b. pointwise nat_eq item.digest.0 digest || b) (any_seen ledger digest)
 any_seen (Done done ∷ ledger) digest = any_seen ledger digest
-
-kept_opened : (ledger : List Change) → length (filter is_open ledger) ≡ length (opens ledger)
-kept_opened [] = refl
-kept_opened (Open item ∷ ledger) = ap suc (kept_opened ledger)
-kept_opened (Done done ∷ ledger) = kept_opened ledger
-
-pub count_opened : (ledger : List Change) → count_by is_open ledger ≡ length (opens ledger)
-count_opened ledger = sym (length-filter is_open ledger) ∙ kept_opened ledger
+any_seen (Settled id stamp other ∷ ledger) digest = ap (λ b. pointwise nat_eq other.0 digest || b) (any_seen ledger digest)
+any_seen (Floor floor next ∷ ledger) digest = any_seen ledger digest
 
 pub find_opened : (ledger : List Change) (id : ℕ) → option_and_then opened_by (find (opens_id id) ledger) ≡ find (λ item. item.id == id) (opens ledger)
 find_opened [] id = refl
@@ -45,6 +40,8 @@ find_opened (Open item ∷ ledger) id = elim (item.id == id) as (λ b. option_an
   | false ↦ find_opened ledger id
 ]
 find_opened (Done done ∷ ledger) id = find_opened ledger id
+find_opened (Settled settled stamp digest ∷ ledger) id = find_opened ledger id
+find_opened (Floor floor next ∷ ledger) id = find_opened ledger id
 
 -- what is found in what a filter keeps
 pub find_kept : {X : Type 0} (p q : X → Bool) → ((x : X) → p x ≡ true → q x ≡ true) → (xs : List X) → find p (filter q xs) ≡ find p xs
@@ -118,16 +115,60 @@ may_done ledger id r b is found =
     let same : b ≡ is_some (find (λ (item : OpenRecord). item.id == id) (live ledger)) = is ∙ copied_is_some r ∙ ap is_some found in
     (λ yes. number_found id (live ledger) (sym same ∙ yes), λ there. same ∙ number_there id (live ledger) there)
 
-seen_there : (ledger : List Change) (digest : List ℕ) → is_seen digest ledger ≡ true → Contains (seen ledger) digest
+-- a digest is new where no record has it
+seen_there : (ledger : List Change) (digest : List ℕ) → is_seen digest ledger ≡ true → IsSeen digest ledger
 seen_there ledger digest is_there =
-    let at = list_any-at (λ (other : List ℕ). pointwise nat_eq other digest) (seen ledger) is_there in
-    let same : at.0 ≡ digest = (bytes_eq-Decides at.0 digest).0 at.2 in
-    subst (Contains (seen ledger)) same at.1
+    let at = list_any-at (λ (key : Key). pointwise nat_eq key.digest digest) (seen ledger) is_there in
+    let same : at.0.digest ≡ digest = (bytes_eq-Decides at.0.digest digest).0 at.2 in
+    subst (λ (other : List ℕ). IsSeen other ledger) same (Contains-map (λ (key : Key). key.digest) (seen ledger) at.0 at.1)
 
-pub may_open : (ledger : List Change) (item : OpenRecord) (b : Bool) → b ≡ list_any (has_digest item.digest.0) ledger → item.id ≡ next_id ledger
-    → (IsTrue (not b) → MayFollow ledger (Open item)) × (MayFollow ledger (Open item) → IsTrue (not b))
-may_open ledger item true is next = (λ no. absurd (let n : false ≡ true = no in cc), λ may. absurd (may.1 (seen_there ledger item.digest.0 (sym (any_seen ledger item.digest.0) ∙ sym is))))
-may_open ledger item false is next = (λ yes. (next, fresh-unseen item.digest.0 ledger (sym (any_seen ledger item.digest.0) ∙ sym is)), λ may. refl)
+pub may_new : (ledger : List Change) (digest : List ℕ) (b : Bool) → b ≡ list_any (has_digest digest) ledger → (IsTrue (not b) → IsSeen digest ledger → ⊥) × ((IsSeen digest ledger → ⊥) → IsTrue (not b))
+may_new ledger digest true is = (λ no. absurd (let n : false ≡ true = no in cc), λ fresh. absurd (fresh (seen_there ledger digest (sym (any_seen ledger digest) ∙ sym is))))
+may_new ledger digest false is = (λ yes. fresh-unseen digest ledger (sym (any_seen ledger digest) ∙ sym is), λ fresh. refl)
+
+-- ---- numbers
+
+abbrev pub Below : ℕ → List Change → Type 0
+Below id ledger = All (λ other. other < id) (numbers ledger)
+
+below_rest : (id : ℕ) (b rest : Bool) → (b && rest) ≡ true → (b ≡ true) × (rest ≡ true)
+below_rest id true rest e = (refl, e)
+below_rest id false rest e = absurd (let n : false ≡ true = e in cc)
+
+all_below : (id : ℕ) (ledger : List Change) → list_all (is_below id) ledger ≡ true → AllByRecursion (λ other. other < id) (numbers ledger)
+all_below id [] e = tt
+all_below id (Open item ∷ ledger) e = let parts = below_rest id (nat_lt item.id id) (list_all (is_below id) ledger) e in (grind (arith, nat_tests, parts.0), all_below id ledger parts.1)
+all_below id (Done done ∷ ledger) e = all_below id ledger e
+all_below id (Settled settled stamp digest ∷ ledger) e = let parts = below_rest id (nat_lt settled id) (list_all (is_below id) ledger) e in (grind (arith, nat_tests, parts.0), all_below id ledger parts.1)
+all_below id (Floor floor next ∷ ledger) e = all_below id ledger e
+
+below_all : (id : ℕ) (ledger : List Change) → AllByRecursion (λ other. other < id) (numbers ledger) → list_all (is_below id) ledger ≡ true
+below_all id [] all = refl
+below_all id (Open item ∷ ledger) all = let low : nat_lt item.id id ≡ true = (let h = all.0 in grind (arith, nat_tests)) in rw low (below_all id ledger all.1)
+below_all id (Done done ∷ ledger) all = below_all id ledger all
+below_all id (Settled settled stamp digest ∷ ledger) all = let low : nat_lt settled id ≡ true = (let h = all.0 in grind (arith, nat_tests)) in rw low (below_all id ledger all.1)
+below_all id (Floor floor next ∷ ledger) all = below_all id ledger all
+
+pub are_below : (id : ℕ) (ledger : List Change) (b : Bool) → b ≡ list_all (is_below id) ledger → (IsTrue b → Below id ledger) × (Below id ledger → IsTrue b)
+are_below id ledger b is =
+    (λ yes. All-from_recursion (λ other. other < id) (numbers ledger) (all_below id ledger (sym is ∙ yes)), λ all. is ∙ below_all id ledger (recursion_from_All (λ other. other < id) (numbers ledger) all))
+
+-- a number that is above the others may be that of a record: below the first that was free, or the next one
+pub early_number : (ledger : List Change) (id free : ℕ) (b : Bool) → b ≡ list_all (is_below id) ledger → b ≡ true → free ≡ first_free ledger → id < free → IsNumber ledger id
+early_number ledger id free b is passed free_is low = record { above = (are_below id ledger b is).0 passed; next = inl (omega (arith, free_is, low)) }
+
+pub late_number : (ledger : List Change) (id free next : ℕ) (b : Bool) → b ≡ list_all (is_below id) ledger → b ≡ true → free ≡ first_free ledger → free ≤ id → next ≡ next_id ledger
+    → (IsTrue (nat_eq id next) → IsNumber ledger id) × (IsNumber ledger id → IsTrue (nat_eq id next))
+late_number ledger id free next b is passed free_is high next_is = (
+  λ same. let at : id ≡ next_id ledger = grind (arith, nat_tests, same, next_is) in record { above = (are_below id ledger b is).0 passed; next = inr at },
+  λ number. elim number.next [
+    | inl low ↦ absurd (omega (arith, low, free_is, high))
+    | inr at ↦ let same : id ≡ next = at ∙ sym next_is in grind (arith, nat_tests)
+  ],
+)
+
+pub not_number : (ledger : List Change) (id : ℕ) (b : Bool) → b ≡ list_all (is_below id) ledger → (IsNumber ledger id → IsTrue b)
+not_number ledger id b is number = (are_below id ledger b is).1 number.above
 
 pub ids-append : (ledger : List Change) (a b : List OpenRecord) → ids_of ledger (a ++ b) ≡ ids_of ledger a ++ ids_of ledger b
 ids-append ledger a b =

@@ -1,5 +1,5 @@
 -- One ledger at most is held, and nothing that is held is damaged.
-use Rattle.std.proofs.Common.{◌≡◌, ℕ, ◌<◌, ◌^◌, List, [], ◌∷◌, ◌++◌, length, refl, sym, ap, subst, ◌∙◌, append_assoc, arith, inl, inr, Some}
+use Rattle.std.proofs.Common.{◌≡◌, ◌≢◌, ℕ, ◌<◌, ◌^◌, List, [], ◌∷◌, ◌++◌, length, refl, sym, ap, subst, ◌∙◌, append_assoc, arith, inl, inr, Some}
 use Rattle.std.specs.Int.{w64, to_be_bytes, from_be_bytes}
 use Rattle.std.specs.List.{AllByRecursion, All}
 use Rattle.std.proofs.lemmas.List.{append-nil}
@@ -12,25 +12,25 @@ use Rattle.fk_base.specs.CommandWords.{AreCommandWords}
 use Rattle.fk_base.proofs.PairTexts.{Pair-same}
 use Rattle.fk_trace.specs.declared.change.OpenRecord.{OpenRecord}
 use Rattle.fk_trace.specs.declared.change.Change.{Change}
-use Rattle.fk_trace.specs.declared.change.Change.TheVariants.{Open, Done}
+use Rattle.fk_trace.specs.declared.change.Change.TheVariants.{Open, Done, Settled, Floor}
 use Rattle.fk_trace.specs.Ledger.{MayFollow, IsLedgerFrom}
 use Rattle.fk_host.specs.Disk.{Areas}
 use Rattle.fk_journal.specs.Entries.{Content, place_behind}
 use Rattle.fk_journal.specs.Keeps.{selected}
 use Rattle.fk_journal.proofs.Uniqueness.{one_list, not_both, one_place}
 use Rattle.fk_ledger.specs.declared.reading.Head.{Head}
-use Rattle.fk_ledger.specs.Payloads.{proto_number, words_bytes, record_bytes, content_of, ledger_contents, IsRecord, IsChange}
+use Rattle.fk_ledger.specs.Payloads.{proto_number, words_bytes, record_bytes, settled_bytes, floor_bytes, content_of, ledger_contents, IsRecord, IsChange}
 use Rattle.fk_ledger.specs.Holds.{HoldsLedger, IsBroken, IsLedgerDamagedAt}
-use Rattle.fk_ledger.specs.Reading.{head_at, words_in}
+use Rattle.fk_ledger.specs.Reading.{head_at, words_in, pair_at}
 use Rattle.fk_ledger.proofs.WordLists.{length-concat-take}
-use Rattle.fk_ledger.proofs.PayloadLaws.{some_is, HeadFits, head_again, words_again, wide64}
+use Rattle.fk_ledger.proofs.PayloadLaws.{some_is, HeadFits, head_again, words_again, pair_again, wide64}
 
 -- the values of a record before its words
 abbrev pub head_of : OpenRecord → Head
-head_of item = record { id = item.id; digest = item.digest.0; moment = item.moment; due = item.due; ip = item.ip.0; proto = proto_number item.pair.proto; port = item.pair.port }
+head_of item = record { id = item.id; digest = item.digest.0; stamp = item.stamp; moment = item.moment; due = item.due; ip = item.ip.0; proto = proto_number item.pair.proto; port = item.pair.port }
 
 pub head_fits : (item : OpenRecord) → IsRecord item → HeadFits (head_of item)
-head_fits item is = record { id = is.id; digest = is.digest; moment = (let m = is.moment in omega arith); due = is.due; ip = is.ip; port = is.port }
+head_fits item is = record { id = is.id; digest = is.digest; stamp = (let s = is.stamp in omega arith); moment = (let m = is.moment in omega arith); due = is.due; ip = is.ip; port = is.port }
 
 pub small_words : (words : List (List ℕ)) → AreCommandWords words → All (λ word. length word < 2 ^ 16) words
 small_words words are = λ k d within. let sizes = length-concat-take words k d within in let short = are.short in omega arith
@@ -45,28 +45,51 @@ proto-same Tcp Udp same = absurd (omega arith)
 proto-same Udp Tcp same = absurd (omega arith)
 proto-same Udp Udp same = refl
 
-abbrev record_with : ℕ → Digest → ℕ → ℕ → Ip4 → Pair → List (List ℕ) → OpenRecord
-record_with id digest moment due ip pair close = record { id = id; digest = digest; moment = moment; due = due; ip = ip; pair = pair; close = close }
+abbrev record_with : ℕ → Digest → ℕ → ℕ → ℕ → Ip4 → Pair → List (List ℕ) → OpenRecord
+record_with id digest stamp moment due ip pair close = record { id = id; digest = digest; stamp = stamp; moment = moment; due = due; ip = ip; pair = pair; close = close }
 
 -- a record is its values
 record-same : (a b : OpenRecord) → head_of a ≡ head_of b → a.close ≡ b.close → a ≡ b
 record-same a b heads closes =
     let ids : a.id ≡ b.id = ap (λ (h : Head). h.id) heads in
     let digests : a.digest.0 ≡ b.digest.0 = ap (λ (h : Head). h.digest) heads in
+    let stamps : a.stamp ≡ b.stamp = ap (λ (h : Head). h.stamp) heads in
     let moments : a.moment ≡ b.moment = ap (λ (h : Head). h.moment) heads in
     let dues : a.due ≡ b.due = ap (λ (h : Head). h.due) heads in
     let ips : a.ip.0 ≡ b.ip.0 = ap (λ (h : Head). h.ip) heads in
     let pairs : a.pair ≡ b.pair = Pair-same a.pair b.pair (proto-same a.pair.proto b.pair.proto (ap (λ (h : Head). h.proto) heads)) (ap (λ (h : Head). h.port) heads) in
-    ap (λ (x : ℕ). record_with x a.digest a.moment a.due a.ip a.pair a.close) ids
-    ∙ ap (λ (x : List ℕ). record_with b.id (record { 0 = x }) a.moment a.due a.ip a.pair a.close) digests
-    ∙ ap (λ (x : ℕ). record_with b.id b.digest x a.due a.ip a.pair a.close) moments
-    ∙ ap (λ (x : ℕ). record_with b.id b.digest b.moment x a.ip a.pair a.close) dues
-    ∙ ap (λ (x : ℕ). record_with b.id b.digest b.moment b.due (record { 0 = x }) a.pair a.close) ips
-    ∙ ap (λ (x : Pair). record_with b.id b.digest b.moment b.due b.ip x a.close) pairs
-    ∙ ap (λ (x : List (List ℕ)). record_with b.id b.digest b.moment b.due b.ip b.pair x) closes
+    ap (λ (x : ℕ). record_with x a.digest a.stamp a.moment a.due a.ip a.pair a.close) ids
+    ∙ ap (λ (x : List ℕ). record_with b.id (record { 0 = x }) a.stamp a.moment a.due a.ip a.pair a.close) digests
+    ∙ ap (λ (x : ℕ). record_with b.id b.digest x a.moment a.due a.ip a.pair a.close) stamps
+    ∙ ap (λ (x : ℕ). record_with b.id b.digest b.stamp x a.due a.ip a.pair a.close) moments
+    ∙ ap (λ (x : ℕ). record_with b.id b.digest b.stamp b.moment x a.ip a.pair a.close) dues
+    ∙ ap (λ (x : ℕ). record_with b.id b.digest b.stamp b.moment b.due (record { 0 = x }) a.pair a.close) ips
+    ∙ ap (λ (x : Pair). record_with b.id b.digest b.stamp b.moment b.due b.ip x a.close) pairs
+    ∙ ap (λ (x : List (List ℕ)). record_with b.id b.digest b.stamp b.moment b.due b.ip b.pair x) closes
 
 abbrev payload : Content → List ℕ
 payload content = content.payload
+
+-- entries of two kinds are two
+other_kind : (m n : ℕ) → m ≢ n → (a b : Content) → a.kind ≡ m → b.kind ≡ n → a ≡ b → ⊥
+other_kind m n differ a b of_m of_n same = differ (sym of_m ∙ ap (λ (c : Content). c.kind) same ∙ of_n)
+
+pairs_same : (a b c d : ℕ) (x y : List ℕ) → a < 2 ^ 64 → b < 2 ^ 64 → c < 2 ^ 64 → d < 2 ^ 64 → to_be_bytes w64 a ++ (to_be_bytes w64 b ++ x) ≡ to_be_bytes w64 c ++ (to_be_bytes w64 d ++ y)
+    → (a ≡ c) × (b ≡ d) × (x ≡ y)
+pairs_same a b c d x y small_a small_b small_c small_d same =
+    let both : ((a, b), x) ≡ ((c, d), y) = some_is ((a, b), x) ((c, d), y) (sym (pair_again a b x small_a small_b) ∙ ap pair_at same ∙ pair_again c d y small_c small_d) in
+    (ap (λ (p : (ℕ × ℕ) × List ℕ). p.0.0) both, ap (λ (p : (ℕ × ℕ) × List ℕ). p.0.1) both, ap (λ (p : (ℕ × ℕ) × List ℕ). p.1) both)
+
+settled-same : (id other stamp later : ℕ) (digest text : Digest) → stamp < 2 ^ 64 → later < 2 ^ 64 → id < 2 ^ 64 → other < 2 ^ 64 → settled_bytes id stamp digest ≡ settled_bytes other later text → Settled id stamp digest ≡ Settled other later text
+settled-same id other stamp later digest text small_s small_l small_i small_o same =
+    let parts = pairs_same id stamp other later digest.0 text.0 small_i small_s small_o small_l same in
+    ap (λ (n : ℕ). Settled n stamp digest) parts.0 ∙ ap (λ (n : ℕ). Settled other n digest) parts.1 ∙ ap (λ (bytes : List ℕ). Settled other later (record { 0 = bytes })) parts.2
+
+floor-same : (floor upper next later : ℕ) → floor < 2 ^ 64 → upper < 2 ^ 64 → next < 2 ^ 64 → later < 2 ^ 64 → floor_bytes floor next ≡ floor_bytes upper later → Floor floor next ≡ Floor upper later
+floor-same floor upper next later small_f small_u small_n small_l same =
+    let parts = pairs_same floor next upper later [] [] small_f small_n small_u small_l
+    (ap (λ (bytes : List ℕ). to_be_bytes w64 floor ++ bytes) (append-nil (to_be_bytes w64 next)) ∙ same ∙ ap (λ (bytes : List ℕ). to_be_bytes w64 upper ++ bytes) (sym (append-nil (to_be_bytes w64 later)))) in
+    ap (λ (n : ℕ). Floor n next) parts.0 ∙ ap (λ (n : ℕ). Floor upper n) parts.1
 
 pub content-injective : (a b : Change) → IsChange a → IsChange b → content_of a ≡ content_of b → a ≡ b
 content-injective (Open a) (Open b) is_a is_b same =
@@ -77,8 +100,22 @@ content-injective (Open a) (Open b) is_a is_b same =
     let words : words_bytes a.close ≡ words_bytes b.close = ap (λ (p : Head × List ℕ). p.1) heads in
     let closes : a.close ≡ b.close = some_is a.close b.close (sym read_a.1 ∙ ap words_in words ∙ read_b.1) in
     ap Open (record-same a b (ap (λ (p : Head × List ℕ). p.0) heads) closes)
-content-injective (Open a) (Done b) is_a is_b same = absurd (let kinds = ap (λ (c : Content). c.kind) same in omega arith)
-content-injective (Done a) (Open b) is_a is_b same = absurd (let kinds = ap (λ (c : Content). c.kind) same in omega arith)
+content-injective (Open a) (Done b) is_a is_b same = absurd (other_kind 1 2 (λ e. omega (arith, e)) _ _ refl refl same)
+content-injective (Open a) (Settled id stamp digest) is_a is_b same = absurd (other_kind 1 3 (λ e. omega (arith, e)) _ _ refl refl same)
+content-injective (Open a) (Floor floor next) is_a is_b same = absurd (other_kind 1 4 (λ e. omega (arith, e)) _ _ refl refl same)
+content-injective (Done a) (Open b) is_a is_b same = absurd (other_kind 2 1 (λ e. omega (arith, e)) _ _ refl refl same)
+content-injective (Done a) (Settled id stamp digest) is_a is_b same = absurd (other_kind 2 3 (λ e. omega (arith, e)) _ _ refl refl same)
+content-injective (Done a) (Floor floor next) is_a is_b same = absurd (other_kind 2 4 (λ e. omega (arith, e)) _ _ refl refl same)
+content-injective (Settled id stamp digest) (Open b) is_a is_b same = absurd (other_kind 3 1 (λ e. omega (arith, e)) _ _ refl refl same)
+content-injective (Settled id stamp digest) (Done b) is_a is_b same = absurd (other_kind 3 2 (λ e. omega (arith, e)) _ _ refl refl same)
+content-injective (Settled id stamp digest) (Settled other later text) is_a is_b same =
+    settled-same id other stamp later digest text (let s = is_a.1 in omega arith) (let s = is_b.1 in omega arith) is_a.0 is_b.0 (ap payload same)
+content-injective (Settled id stamp digest) (Floor floor next) is_a is_b same = absurd (other_kind 3 4 (λ e. omega (arith, e)) _ _ refl refl same)
+content-injective (Floor floor next) (Open b) is_a is_b same = absurd (other_kind 4 1 (λ e. omega (arith, e)) _ _ refl refl same)
+content-injective (Floor floor next) (Done b) is_a is_b same = absurd (other_kind 4 2 (λ e. omega (arith, e)) _ _ refl refl same)
+content-injective (Floor floor next) (Settled id stamp digest) is_a is_b same = absurd (other_kind 4 3 (λ e. omega (arith, e)) _ _ refl refl same)
+content-injective (Floor floor next) (Floor upper later) is_a is_b same =
+    floor-same floor upper next later is_a.0 is_b.0 (let s = is_a.2 in omega arith) (let s = is_b.2 in omega arith) (ap payload same)
 content-injective (Done a) (Done b) is_a is_b same =
     let bytes : to_be_bytes w64 a ≡ to_be_bytes w64 b = ap payload same in
     ap Done (sym (wide64.again a is_a) ∙ ap (from_be_bytes w64) bytes ∙ wide64.again b is_b)

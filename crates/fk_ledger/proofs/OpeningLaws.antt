@@ -14,10 +14,6 @@ use Rattle.fk_ledger.specs.Stretch.{IsLedgerOpening}
 use Rattle.fk_ledger.specs.Private.{BreakAt}
 use Rattle.fk_ledger.proofs.StretchLaws.{held_state}
 
--- a ledger, as a stretch without changes tells it
-still_held : (ledger : List Change) (image : Areas) → HoldsLedger image ledger → HoldsState (ledger ++ []) image
-still_held ledger image held = subst (λ (ledger : List Change). HoldsState ledger image) (sym (append-nil ledger)) (held_state ledger image held)
-
 opening : (ledger : List Change) (whole : Bool) (old new : ℕ → Areas → Type 0) (x y : Told) → IsOpening old new x y → HoldsLedger x.areas ledger
     → (whole ≡ true → (image : Areas) → new y.moments image → HoldsLedger image ledger) → IsLedgerOpening ledger whole old new x y
 opening ledger whole old new x y opens held all = record {
@@ -29,13 +25,13 @@ opening ledger whole old new x y opens held all = record {
     past = λ k image within. (λ h. h, λ h. h);
     each = λ k image behind upto left. (
       0,
-      still_held ledger image (record {
+      held_state ledger image (record {
         entries = same_held (selected x.areas) (selected image) (ledger_contents ledger) (opens.then k image behind upto left) held.entries;
         each = held.each;
         follow = held.follow;
       }),
     );
-    all = λ is image left. still_held ledger image (all is image left);
+    all = λ is image left. held_state ledger image (all is image left);
   };
 }
 

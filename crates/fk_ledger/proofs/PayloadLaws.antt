@@ -9,7 +9,7 @@ use Rattle.std.proofs.lemmas.Nat.{be_bytes_2, be_bytes_4, be_bytes_8, from_be_by
 use Rattle.fk_base.specs.Bytes.{IsBytes, HasBytes}
 use Rattle.fk_ledger.specs.Payloads.{word_bytes, words_bytes}
 use Rattle.fk_ledger.specs.declared.reading.Head.{Head}
-use Rattle.fk_ledger.specs.Reading.{◌>>=◌, number_at, piece_at, byte_at, word_at, texts_at, words_in, head_at}
+use Rattle.fk_ledger.specs.Reading.{◌>>=◌, number_at, piece_at, byte_at, word_at, texts_at, words_in, head_at, pair_at}
 
 IsBytes-drop : (n : ℕ) (bytes : List ℕ) → IsBytes bytes → IsBytes (drop n bytes)
 IsBytes-drop n bytes h i = rw get_or-drop (h (n + i))
@@ -177,89 +177,101 @@ words_again words small =
 -- a head's bytes, and bytes behind them
 abbrev pub head_then : Head → List ℕ → List ℕ
 head_then h rest =
-    to_be_bytes w64 h.id ++ (h.digest ++ (to_be_bytes w64 h.moment ++ (to_be_bytes w64 h.due ++ (to_be_bytes w32 h.ip ++ (h.proto ∷ (to_be_bytes w16 h.port ++ rest))))))
+    to_be_bytes w64 h.id ++ (h.digest ++ (to_be_bytes w64 h.stamp ++ (to_be_bytes w64 h.moment ++ (to_be_bytes w64 h.due ++ (to_be_bytes w32 h.ip ++ (h.proto ∷ (to_be_bytes w16 h.port ++ rest)))))))
 
 pub record HeadFits (h : Head) : Type 0 where
   pub id : h.id < 2 ^ 64
   pub digest : HasBytes 32 h.digest
+  pub stamp : h.stamp < 2 ^ 64
   pub moment : h.moment < 2 ^ 64
   pub due : h.due < 2 ^ 64
   pub ip : h.ip < 2 ^ 32
   pub port : h.port < 2 ^ 16
 
-abbrev head_with : ℕ → List ℕ → ℕ → ℕ → ℕ → ℕ → ℕ → Head
-head_with id digest moment due ip proto port = record { id = id; digest = digest; moment = moment; due = due; ip = ip; proto = proto; port = port }
+abbrev head_with : ℕ → List ℕ → ℕ → ℕ → ℕ → ℕ → ℕ → ℕ → Head
+head_with id digest stamp moment due ip proto port = record { id = id; digest = digest; stamp = stamp; moment = moment; due = due; ip = ip; proto = proto; port = port }
 
 -- what is read from the port on, and then from each field before it on
-port_takes : (i : ℕ) (g : List ℕ) (m d p t : ℕ) (bytes : List ℕ) (x : Head × List ℕ) → IsBytes bytes → (number_at w16 bytes >>= λ port. Some (head_with i g m d p t port.0, port.1)) ≡ Some x
-    → (bytes ≡ to_be_bytes w16 x.0.port ++ x.1) × (x.0.port < 2 ^ 16) × IsBytes x.1 × (x.0 ≡ head_with i g m d p t x.0.port)
-port_takes i g m d p t bytes x fits e =
-    let b = bind_some (number_at w16 bytes) (λ port. Some (head_with i g m d p t port.0, port.1)) x e in
+port_takes : (i : ℕ) (g : List ℕ) (s m d p t : ℕ) (bytes : List ℕ) (x : Head × List ℕ) → IsBytes bytes → (number_at w16 bytes >>= λ port. Some (head_with i g s m d p t port.0, port.1)) ≡ Some x
+    → (bytes ≡ to_be_bytes w16 x.0.port ++ x.1) × (x.0.port < 2 ^ 16) × IsBytes x.1 × (x.0 ≡ head_with i g s m d p t x.0.port)
+port_takes i g s m d p t bytes x fits e =
+    let b = bind_some (number_at w16 bytes) (λ port. Some (head_with i g s m d p t port.0, port.1)) x e in
     let n = number_takes w16 (2 ^ 16) wide16 bytes b.0.0 b.0.1 fits b.1 in
-    subst (λ (y : Head × List ℕ). (bytes ≡ to_be_bytes w16 y.0.port ++ y.1) × (y.0.port < 2 ^ 16) × IsBytes y.1 × (y.0 ≡ head_with i g m d p t y.0.port)) (some_is (head_with i g m d p t b.0.0, b.0.1) x b.2) (n.0.parts, n.1, n.0.rest_fits, refl)
+    subst (λ (y : Head × List ℕ). (bytes ≡ to_be_bytes w16 y.0.port ++ y.1) × (y.0.port < 2 ^ 16) × IsBytes y.1 × (y.0 ≡ head_with i g s m d p t y.0.port)) (some_is (head_with i g s m d p t b.0.0, b.0.1) x b.2) (n.0.parts, n.1, n.0.rest_fits, refl)
 
-proto_takes : (i : ℕ) (g : List ℕ) (m d p : ℕ) (bytes : List ℕ) (x : Head × List ℕ) → IsBytes bytes
-    → (byte_at bytes >>= λ proto. number_at w16 proto.1 >>= λ port. Some (head_with i g m d p proto.0 port.0, port.1)) ≡ Some x
-    → (bytes ≡ x.0.proto ∷ (to_be_bytes w16 x.0.port ++ x.1)) × (x.0.port < 2 ^ 16) × IsBytes x.1 × (x.0 ≡ head_with i g m d p x.0.proto x.0.port)
-proto_takes i g m d p bytes x fits e =
-    let b = bind_some (byte_at bytes) (λ proto. number_at w16 proto.1 >>= λ port. Some (head_with i g m d p proto.0 port.0, port.1)) x e in
+proto_takes : (i : ℕ) (g : List ℕ) (s m d p : ℕ) (bytes : List ℕ) (x : Head × List ℕ) → IsBytes bytes
+    → (byte_at bytes >>= λ proto. number_at w16 proto.1 >>= λ port. Some (head_with i g s m d p proto.0 port.0, port.1)) ≡ Some x
+    → (bytes ≡ x.0.proto ∷ (to_be_bytes w16 x.0.port ++ x.1)) × (x.0.port < 2 ^ 16) × IsBytes x.1 × (x.0 ≡ head_with i g s m d p x.0.proto x.0.port)
+proto_takes i g s m d p bytes x fits e =
+    let b = bind_some (byte_at bytes) (λ proto. number_at w16 proto.1 >>= λ port. Some (head_with i g s m d p proto.0 port.0, port.1)) x e in
     let t = byte_takes bytes b.0.0 b.0.1 fits b.1 in
-    let r = port_takes i g m d p b.0.0 b.0.1 x t.2 b.2 in
+    let r = port_takes i g s m d p b.0.0 b.0.1 x t.2 b.2 in
     let same : b.0.0 ≡ x.0.proto = sym (ap (λ (h : Head). h.proto) r.3) in
-    (t.0 ∙ ap (λ rest. b.0.0 ∷ rest) r.0 ∙ ap (λ byte. byte ∷ (to_be_bytes w16 x.0.port ++ x.1)) same, r.1, r.2, r.3 ∙ ap (λ n. head_with i g m d p n x.0.port) same)
+    (t.0 ∙ ap (λ rest. b.0.0 ∷ rest) r.0 ∙ ap (λ byte. byte ∷ (to_be_bytes w16 x.0.port ++ x.1)) same, r.1, r.2, r.3 ∙ ap (λ n. head_with i g s m d p n x.0.port) same)
 
-ip_takes : (i : ℕ) (g : List ℕ) (m d : ℕ) (bytes : List ℕ) (x : Head × List ℕ) → IsBytes bytes
-    → (number_at w32 bytes >>= λ ip. byte_at ip.1 >>= λ proto. number_at w16 proto.1 >>= λ port. Some (head_with i g m d ip.0 proto.0 port.0, port.1)) ≡ Some x
-    → (bytes ≡ to_be_bytes w32 x.0.ip ++ (x.0.proto ∷ (to_be_bytes w16 x.0.port ++ x.1))) × (x.0.port < 2 ^ 16) × IsBytes x.1 × (x.0 ≡ head_with i g m d x.0.ip x.0.proto x.0.port) × (x.0.ip < 2 ^ 32)
-ip_takes i g m d bytes x fits e =
-    let b = bind_some (number_at w32 bytes) (λ ip. byte_at ip.1 >>= λ proto. number_at w16 proto.1 >>= λ port. Some (head_with i g m d ip.0 proto.0 port.0, port.1)) x e in
+ip_takes : (i : ℕ) (g : List ℕ) (s m d : ℕ) (bytes : List ℕ) (x : Head × List ℕ) → IsBytes bytes
+    → (number_at w32 bytes >>= λ ip. byte_at ip.1 >>= λ proto. number_at w16 proto.1 >>= λ port. Some (head_with i g s m d ip.0 proto.0 port.0, port.1)) ≡ Some x
+    → (bytes ≡ to_be_bytes w32 x.0.ip ++ (x.0.proto ∷ (to_be_bytes w16 x.0.port ++ x.1))) × (x.0.port < 2 ^ 16) × IsBytes x.1 × (x.0 ≡ head_with i g s m d x.0.ip x.0.proto x.0.port) × (x.0.ip < 2 ^ 32)
+ip_takes i g s m d bytes x fits e =
+    let b = bind_some (number_at w32 bytes) (λ ip. byte_at ip.1 >>= λ proto. number_at w16 proto.1 >>= λ port. Some (head_with i g s m d ip.0 proto.0 port.0, port.1)) x e in
     let t = number_takes w32 (2 ^ 32) wide32 bytes b.0.0 b.0.1 fits b.1 in
-    let r = proto_takes i g m d b.0.0 b.0.1 x t.0.rest_fits b.2 in
+    let r = proto_takes i g s m d b.0.0 b.0.1 x t.0.rest_fits b.2 in
     let same : b.0.0 ≡ x.0.ip = sym (ap (λ (h : Head). h.ip) r.3) in
-    (t.0.parts ∙ ap (λ rest. to_be_bytes w32 b.0.0 ++ rest) r.0 ∙ ap (λ n. to_be_bytes w32 n ++ (x.0.proto ∷ (to_be_bytes w16 x.0.port ++ x.1))) same, r.1, r.2, r.3 ∙ ap (λ n. head_with i g m d n x.0.proto x.0.port) same, subst (λ n. n < 2 ^ 32) same t.1)
+    (t.0.parts ∙ ap (λ rest. to_be_bytes w32 b.0.0 ++ rest) r.0 ∙ ap (λ n. to_be_bytes w32 n ++ (x.0.proto ∷ (to_be_bytes w16 x.0.port ++ x.1))) same, r.1, r.2, r.3 ∙ ap (λ n. head_with i g s m d n x.0.proto x.0.port) same, subst (λ n. n < 2 ^ 32) same t.1)
 
-due_takes : (i : ℕ) (g : List ℕ) (m : ℕ) (bytes : List ℕ) (x : Head × List ℕ) → IsBytes bytes
-    → (number_at w64 bytes >>= λ due. number_at w32 due.1 >>= λ ip. byte_at ip.1 >>= λ proto. number_at w16 proto.1 >>= λ port. Some (head_with i g m due.0 ip.0 proto.0 port.0, port.1)) ≡ Some x
+due_takes : (i : ℕ) (g : List ℕ) (s m : ℕ) (bytes : List ℕ) (x : Head × List ℕ) → IsBytes bytes
+    → (number_at w64 bytes >>= λ due. number_at w32 due.1 >>= λ ip. byte_at ip.1 >>= λ proto. number_at w16 proto.1 >>= λ port. Some (head_with i g s m due.0 ip.0 proto.0 port.0, port.1)) ≡ Some x
     → (bytes ≡ to_be_bytes w64 x.0.due ++ (to_be_bytes w32 x.0.ip ++ (x.0.proto ∷ (to_be_bytes w16 x.0.port ++ x.1)))) × (x.0.port < 2 ^ 16) × IsBytes x.1
-    × (x.0 ≡ head_with i g m x.0.due x.0.ip x.0.proto x.0.port) × (x.0.ip < 2 ^ 32) × (x.0.due < 2 ^ 64)
-due_takes i g m bytes x fits e =
-    let b = bind_some (number_at w64 bytes) (λ due. number_at w32 due.1 >>= λ ip. byte_at ip.1 >>= λ proto. number_at w16 proto.1 >>= λ port. Some (head_with i g m due.0 ip.0 proto.0 port.0, port.1)) x e in
+    × (x.0 ≡ head_with i g s m x.0.due x.0.ip x.0.proto x.0.port) × (x.0.ip < 2 ^ 32) × (x.0.due < 2 ^ 64)
+due_takes i g s m bytes x fits e =
+    let b = bind_some (number_at w64 bytes) (λ due. number_at w32 due.1 >>= λ ip. byte_at ip.1 >>= λ proto. number_at w16 proto.1 >>= λ port. Some (head_with i g s m due.0 ip.0 proto.0 port.0, port.1)) x e in
     let t = number_takes w64 (2 ^ 64) wide64 bytes b.0.0 b.0.1 fits b.1 in
-    let r = ip_takes i g m b.0.0 b.0.1 x t.0.rest_fits b.2 in
+    let r = ip_takes i g s m b.0.0 b.0.1 x t.0.rest_fits b.2 in
     let same : b.0.0 ≡ x.0.due = sym (ap (λ (h : Head). h.due) r.3) in
-    (t.0.parts ∙ ap (λ rest. to_be_bytes w64 b.0.0 ++ rest) r.0 ∙ ap (λ n. to_be_bytes w64 n ++ (to_be_bytes w32 x.0.ip ++ (x.0.proto ∷ (to_be_bytes w16 x.0.port ++ x.1)))) same, r.1, r.2, r.3 ∙ ap (λ n. head_with i g m n x.0.ip x.0.proto x.0.port) same, r.4, subst (λ n. n < 2 ^ 64) same t.1)
+    (t.0.parts ∙ ap (λ rest. to_be_bytes w64 b.0.0 ++ rest) r.0 ∙ ap (λ n. to_be_bytes w64 n ++ (to_be_bytes w32 x.0.ip ++ (x.0.proto ∷ (to_be_bytes w16 x.0.port ++ x.1)))) same, r.1, r.2, r.3 ∙ ap (λ n. head_with i g s m n x.0.ip x.0.proto x.0.port) same, r.4, subst (λ n. n < 2 ^ 64) same t.1)
 
-moment_takes : (i : ℕ) (g : List ℕ) (bytes : List ℕ) (x : Head × List ℕ) → IsBytes bytes
-    → (number_at w64 bytes >>= λ moment. number_at w64 moment.1 >>= λ due. number_at w32 due.1 >>= λ ip. byte_at ip.1 >>= λ proto. number_at w16 proto.1 >>= λ port. Some (head_with i g moment.0 due.0 ip.0 proto.0 port.0, port.1)) ≡ Some x
+moment_takes : (i : ℕ) (g : List ℕ) (s : ℕ) (bytes : List ℕ) (x : Head × List ℕ) → IsBytes bytes
+    → (number_at w64 bytes >>= λ moment. number_at w64 moment.1 >>= λ due. number_at w32 due.1 >>= λ ip. byte_at ip.1 >>= λ proto. number_at w16 proto.1 >>= λ port. Some (head_with i g s moment.0 due.0 ip.0 proto.0 port.0, port.1)) ≡ Some x
     → (bytes ≡ to_be_bytes w64 x.0.moment ++ (to_be_bytes w64 x.0.due ++ (to_be_bytes w32 x.0.ip ++ (x.0.proto ∷ (to_be_bytes w16 x.0.port ++ x.1))))) × (x.0.port < 2 ^ 16) × IsBytes x.1
-    × (x.0 ≡ head_with i g x.0.moment x.0.due x.0.ip x.0.proto x.0.port) × (x.0.ip < 2 ^ 32) × (x.0.due < 2 ^ 64) × (x.0.moment < 2 ^ 64)
-moment_takes i g bytes x fits e =
-    let b = bind_some (number_at w64 bytes) (λ moment. number_at w64 moment.1 >>= λ due. number_at w32 due.1 >>= λ ip. byte_at ip.1 >>= λ proto. number_at w16 proto.1 >>= λ port. Some (head_with i g moment.0 due.0 ip.0 proto.0 port.0, port.1)) x e in
+    × (x.0 ≡ head_with i g s x.0.moment x.0.due x.0.ip x.0.proto x.0.port) × (x.0.ip < 2 ^ 32) × (x.0.due < 2 ^ 64) × (x.0.moment < 2 ^ 64)
+moment_takes i g s bytes x fits e =
+    let b = bind_some (number_at w64 bytes) (λ moment. number_at w64 moment.1 >>= λ due. number_at w32 due.1 >>= λ ip. byte_at ip.1 >>= λ proto. number_at w16 proto.1 >>= λ port. Some (head_with i g s moment.0 due.0 ip.0 proto.0 port.0, port.1)) x e in
     let t = number_takes w64 (2 ^ 64) wide64 bytes b.0.0 b.0.1 fits b.1 in
-    let r = due_takes i g b.0.0 b.0.1 x t.0.rest_fits b.2 in
+    let r = due_takes i g s b.0.0 b.0.1 x t.0.rest_fits b.2 in
     let same : b.0.0 ≡ x.0.moment = sym (ap (λ (h : Head). h.moment) r.3) in
-    (t.0.parts ∙ ap (λ rest. to_be_bytes w64 b.0.0 ++ rest) r.0 ∙ ap (λ n. to_be_bytes w64 n ++ (to_be_bytes w64 x.0.due ++ (to_be_bytes w32 x.0.ip ++ (x.0.proto ∷ (to_be_bytes w16 x.0.port ++ x.1))))) same, r.1, r.2, r.3 ∙ ap (λ n. head_with i g n x.0.due x.0.ip x.0.proto x.0.port) same, r.4, r.5, subst (λ n. n < 2 ^ 64) same t.1)
+    (t.0.parts ∙ ap (λ rest. to_be_bytes w64 b.0.0 ++ rest) r.0 ∙ ap (λ n. to_be_bytes w64 n ++ (to_be_bytes w64 x.0.due ++ (to_be_bytes w32 x.0.ip ++ (x.0.proto ∷ (to_be_bytes w16 x.0.port ++ x.1))))) same, r.1, r.2, r.3 ∙ ap (λ n. head_with i g s n x.0.due x.0.ip x.0.proto x.0.port) same, r.4, r.5, subst (λ n. n < 2 ^ 64) same t.1)
+
+stamp_takes : (i : ℕ) (g : List ℕ) (bytes : List ℕ) (x : Head × List ℕ) → IsBytes bytes
+    → (number_at w64 bytes >>= λ stamp. number_at w64 stamp.1 >>= λ moment. number_at w64 moment.1 >>= λ due. number_at w32 due.1 >>= λ ip. byte_at ip.1 >>= λ proto. number_at w16 proto.1 >>= λ port. Some (head_with i g stamp.0 moment.0 due.0 ip.0 proto.0 port.0, port.1)) ≡ Some x
+    → (bytes ≡ to_be_bytes w64 x.0.stamp ++ (to_be_bytes w64 x.0.moment ++ (to_be_bytes w64 x.0.due ++ (to_be_bytes w32 x.0.ip ++ (x.0.proto ∷ (to_be_bytes w16 x.0.port ++ x.1)))))) × (x.0.port < 2 ^ 16) × IsBytes x.1
+    × (x.0 ≡ head_with i g x.0.stamp x.0.moment x.0.due x.0.ip x.0.proto x.0.port) × (x.0.ip < 2 ^ 32) × (x.0.due < 2 ^ 64) × (x.0.moment < 2 ^ 64) × (x.0.stamp < 2 ^ 64)
+stamp_takes i g bytes x fits e =
+    let b = bind_some (number_at w64 bytes) (λ stamp. number_at w64 stamp.1 >>= λ moment. number_at w64 moment.1 >>= λ due. number_at w32 due.1 >>= λ ip. byte_at ip.1 >>= λ proto. number_at w16 proto.1 >>= λ port. Some (head_with i g stamp.0 moment.0 due.0 ip.0 proto.0 port.0, port.1)) x e in
+    let t = number_takes w64 (2 ^ 64) wide64 bytes b.0.0 b.0.1 fits b.1 in
+    let r = moment_takes i g b.0.0 b.0.1 x t.0.rest_fits b.2 in
+    let same : b.0.0 ≡ x.0.stamp = sym (ap (λ (h : Head). h.stamp) r.3) in
+    (t.0.parts ∙ ap (λ rest. to_be_bytes w64 b.0.0 ++ rest) r.0 ∙ ap (λ n. to_be_bytes w64 n ++ (to_be_bytes w64 x.0.moment ++ (to_be_bytes w64 x.0.due ++ (to_be_bytes w32 x.0.ip ++ (x.0.proto ∷ (to_be_bytes w16 x.0.port ++ x.1)))))) same, r.1, r.2, r.3 ∙ ap (λ n. head_with i g n x.0.moment x.0.due x.0.ip x.0.proto x.0.port) same, r.4, r.5, r.6, subst (λ n. n < 2 ^ 64) same t.1)
 
 digest_takes : (i : ℕ) (bytes : List ℕ) (x : Head × List ℕ) → IsBytes bytes
-    → (piece_at 32 bytes >>= λ digest. number_at w64 digest.1 >>= λ moment. number_at w64 moment.1 >>= λ due. number_at w32 due.1 >>= λ ip. byte_at ip.1 >>= λ proto. number_at w16 proto.1 >>= λ port. Some (head_with i digest.0 moment.0 due.0 ip.0 proto.0 port.0, port.1)) ≡ Some x
-    → (bytes ≡ x.0.digest ++ (to_be_bytes w64 x.0.moment ++ (to_be_bytes w64 x.0.due ++ (to_be_bytes w32 x.0.ip ++ (x.0.proto ∷ (to_be_bytes w16 x.0.port ++ x.1)))))) × (x.0.port < 2 ^ 16) × IsBytes x.1
-    × (x.0 ≡ head_with i x.0.digest x.0.moment x.0.due x.0.ip x.0.proto x.0.port) × (x.0.ip < 2 ^ 32) × (x.0.due < 2 ^ 64) × (x.0.moment < 2 ^ 64) × HasBytes 32 x.0.digest
+    → (piece_at 32 bytes >>= λ digest. number_at w64 digest.1 >>= λ stamp. number_at w64 stamp.1 >>= λ moment. number_at w64 moment.1 >>= λ due. number_at w32 due.1 >>= λ ip. byte_at ip.1 >>= λ proto. number_at w16 proto.1 >>= λ port. Some (head_with i digest.0 stamp.0 moment.0 due.0 ip.0 proto.0 port.0, port.1)) ≡ Some x
+    → (bytes ≡ x.0.digest ++ (to_be_bytes w64 x.0.stamp ++ (to_be_bytes w64 x.0.moment ++ (to_be_bytes w64 x.0.due ++ (to_be_bytes w32 x.0.ip ++ (x.0.proto ∷ (to_be_bytes w16 x.0.port ++ x.1))))))) × (x.0.port < 2 ^ 16) × IsBytes x.1
+    × (x.0 ≡ head_with i x.0.digest x.0.stamp x.0.moment x.0.due x.0.ip x.0.proto x.0.port) × (x.0.ip < 2 ^ 32) × (x.0.due < 2 ^ 64) × (x.0.moment < 2 ^ 64) × (x.0.stamp < 2 ^ 64) × HasBytes 32 x.0.digest
 digest_takes i bytes x fits e =
-    let b = bind_some (piece_at 32 bytes) (λ digest. number_at w64 digest.1 >>= λ moment. number_at w64 moment.1 >>= λ due. number_at w32 due.1 >>= λ ip. byte_at ip.1 >>= λ proto. number_at w16 proto.1 >>= λ port. Some (head_with i digest.0 moment.0 due.0 ip.0 proto.0 port.0, port.1)) x e in
+    let b = bind_some (piece_at 32 bytes) (λ digest. number_at w64 digest.1 >>= λ stamp. number_at w64 stamp.1 >>= λ moment. number_at w64 moment.1 >>= λ due. number_at w32 due.1 >>= λ ip. byte_at ip.1 >>= λ proto. number_at w16 proto.1 >>= λ port. Some (head_with i digest.0 stamp.0 moment.0 due.0 ip.0 proto.0 port.0, port.1)) x e in
     let t = piece_takes 32 bytes b.0.0 b.0.1 fits b.1 in
-    let r = moment_takes i b.0.0 b.0.1 x t.0.rest_fits b.2 in
+    let r = stamp_takes i b.0.0 b.0.1 x t.0.rest_fits b.2 in
     let same : b.0.0 ≡ x.0.digest = sym (ap (λ (h : Head). h.digest) r.3) in
-    (t.0.parts ∙ ap (λ rest. b.0.0 ++ rest) r.0 ∙ ap (λ n. n ++ (to_be_bytes w64 x.0.moment ++ (to_be_bytes w64 x.0.due ++ (to_be_bytes w32 x.0.ip ++ (x.0.proto ∷ (to_be_bytes w16 x.0.port ++ x.1)))))) same, r.1, r.2, r.3 ∙ ap (λ n. head_with i n x.0.moment x.0.due x.0.ip x.0.proto x.0.port) same, r.4, r.5, r.6, subst (HasBytes 32) same t.1)
+    (t.0.parts ∙ ap (λ rest. b.0.0 ++ rest) r.0 ∙ ap (λ n. n ++ (to_be_bytes w64 x.0.stamp ++ (to_be_bytes w64 x.0.moment ++ (to_be_bytes w64 x.0.due ++ (to_be_bytes w32 x.0.ip ++ (x.0.proto ∷ (to_be_bytes w16 x.0.port ++ x.1))))))) same, r.1, r.2, r.3 ∙ ap (λ n. head_with i n x.0.stamp x.0.moment x.0.due x.0.ip x.0.proto x.0.port) same, r.4, r.5, r.6, r.7, subst (HasBytes 32) same t.1)
 
 pub head_takes : (bytes : List ℕ) (x : Head × List ℕ) → IsBytes bytes → head_at bytes ≡ Some x → (bytes ≡ head_then x.0 x.1) × HeadFits x.0 × IsBytes x.1
 unfolding head_at
 head_takes bytes x fits e =
-    let b = bind_some (number_at w64 bytes) (λ id. piece_at 32 id.1 >>= λ digest. number_at w64 digest.1 >>= λ moment. number_at w64 moment.1 >>= λ due. number_at w32 due.1 >>= λ ip. byte_at ip.1 >>= λ proto. number_at w16 proto.1 >>= λ port. Some (head_with id.0 digest.0 moment.0 due.0 ip.0 proto.0 port.0, port.1)) x e in
+    let b = bind_some (number_at w64 bytes) (λ id. piece_at 32 id.1 >>= λ digest. number_at w64 digest.1 >>= λ stamp. number_at w64 stamp.1 >>= λ moment. number_at w64 moment.1 >>= λ due. number_at w32 due.1 >>= λ ip. byte_at ip.1 >>= λ proto. number_at w16 proto.1 >>= λ port. Some (head_with id.0 digest.0 stamp.0 moment.0 due.0 ip.0 proto.0 port.0, port.1)) x e in
     let t = number_takes w64 (2 ^ 64) wide64 bytes b.0.0 b.0.1 fits b.1 in
     let r = digest_takes b.0.0 b.0.1 x t.0.rest_fits b.2 in
     let same : b.0.0 ≡ x.0.id = sym (ap (λ (h : Head). h.id) r.3) in (
-      t.0.parts ∙ ap (λ rest. to_be_bytes w64 b.0.0 ++ rest) r.0 ∙ ap (λ n. to_be_bytes w64 n ++ (x.0.digest ++ (to_be_bytes w64 x.0.moment ++ (to_be_bytes w64 x.0.due ++ (to_be_bytes w32 x.0.ip ++ (x.0.proto ∷ (to_be_bytes w16 x.0.port ++ x.1))))))) same,
-      record { id = subst (λ n. n < 2 ^ 64) same t.1; digest = r.7; moment = r.6; due = r.5; ip = r.4; port = r.1 },
+      t.0.parts ∙ ap (λ rest. to_be_bytes w64 b.0.0 ++ rest) r.0 ∙ ap (λ n. to_be_bytes w64 n ++ (x.0.digest ++ (to_be_bytes w64 x.0.stamp ++ (to_be_bytes w64 x.0.moment ++ (to_be_bytes w64 x.0.due ++ (to_be_bytes w32 x.0.ip ++ (x.0.proto ∷ (to_be_bytes w16 x.0.port ++ x.1)))))))) same,
+      record { id = subst (λ n. n < 2 ^ 64) same t.1; digest = r.8; stamp = r.7; moment = r.6; due = r.5; ip = r.4; port = r.1 },
       r.2,
     )
 
@@ -271,4 +283,23 @@ head_again h rest fits =
     let from_ip : List ℕ = to_be_bytes w32 h.ip ++ (h.proto ∷ from_port) in
     let from_due : List ℕ = to_be_bytes w64 h.due ++ from_ip in
     let from_moment : List ℕ = to_be_bytes w64 h.moment ++ from_due in
-    rw (number_again w64 (2 ^ 64) wide64 h.id (h.digest ++ from_moment) fits.id, piece_again 32 h.digest from_moment fits.digest.size, number_again w64 (2 ^ 64) wide64 h.moment from_due fits.moment, number_again w64 (2 ^ 64) wide64 h.due from_ip fits.due, number_again w32 (2 ^ 32) wide32 h.ip (h.proto ∷ from_port) fits.ip, number_again w16 (2 ^ 16) wide16 h.port rest fits.port) refl
+    let from_stamp : List ℕ = to_be_bytes w64 h.stamp ++ from_moment in
+    rw (number_again w64 (2 ^ 64) wide64 h.id (h.digest ++ from_stamp) fits.id, piece_again 32 h.digest from_stamp fits.digest.size, number_again w64 (2 ^ 64) wide64 h.stamp from_moment fits.stamp, number_again w64 (2 ^ 64) wide64 h.moment from_due fits.moment, number_again w64 (2 ^ 64) wide64 h.due from_ip fits.due, number_again w32 (2 ^ 32) wide32 h.ip (h.proto ∷ from_port) fits.ip, number_again w16 (2 ^ 16) wide16 h.port rest fits.port) refl
+
+-- ---- two numbers
+
+pub pair_takes : (bytes : List ℕ) (a b : ℕ) (rest : List ℕ) → IsBytes bytes → pair_at bytes ≡ Some ((a, b), rest)
+    → (bytes ≡ to_be_bytes w64 a ++ (to_be_bytes w64 b ++ rest)) × (a < 2 ^ 64) × (b < 2 ^ 64) × IsBytes rest
+unfolding pair_at
+pair_takes bytes a b rest fits e =
+    let one = bind_some (number_at w64 bytes) (λ first. number_at w64 first.1 >>= λ second. Some ((first.0, second.0), second.1)) ((a, b), rest) e in
+    let two = bind_some (number_at w64 one.0.1) (λ second. Some ((one.0.0, second.0), second.1)) ((a, b), rest) one.2 in
+    let t = number_takes w64 (2 ^ 64) wide64 bytes one.0.0 one.0.1 fits one.1 in
+    let u = number_takes w64 (2 ^ 64) wide64 one.0.1 two.0.0 two.0.1 t.0.rest_fits two.1 in
+    subst (λ (x : (ℕ × ℕ) × List ℕ). (bytes ≡ to_be_bytes w64 x.0.0 ++ (to_be_bytes w64 x.0.1 ++ x.1)) × (x.0.0 < 2 ^ 64) × (x.0.1 < 2 ^ 64) × IsBytes x.1)
+    (some_is ((one.0.0, two.0.0), two.0.1) ((a, b), rest) two.2)
+    (t.0.parts ∙ ap (λ (more : List ℕ). to_be_bytes w64 one.0.0 ++ more) u.0.parts, t.1, u.1, u.0.rest_fits)
+
+pub pair_again : (a b : ℕ) (rest : List ℕ) → a < 2 ^ 64 → b < 2 ^ 64 → pair_at (to_be_bytes w64 a ++ (to_be_bytes w64 b ++ rest)) ≡ Some ((a, b), rest)
+unfolding pair_at
+pair_again a b rest small also = rw (number_again w64 (2 ^ 64) wide64 a (to_be_bytes w64 b ++ rest) small, number_again w64 (2 ^ 64) wide64 b rest also) refl

@@ -1,23 +1,24 @@
 -- How many bytes and how many live records a ledger has, and one more change of it.
-use Rattle.std.proofs.Common.{◌≡◌, ℕ, ◌+◌, ◌-◌, ◌<◌, ◌≤◌, ◌==◌, ◌^◌, min, Bool, true, false, not, cond, List, [], ◌∷◌, ◌++◌, length, map, refl, sym, ap, subst, ◌∙◌, arith, inl, inr, append_assoc, append-nil, Option, Vec, Global, vec_capacity}
-use Rattle.std.specs.Prelude.{nat_le}
+use Rattle.std.proofs.Common.{◌≡◌, ℕ, ◌+◌, ◌-◌, ◌*◌, ◌<◌, ◌≤◌, ◌==◌, ◌^◌, min, max, Bool, true, false, not, cond, List, [], ◌∷◌, ◌++◌, length, map, drop, get_or, refl, sym, ap, subst, ◌∙◌, arith, inl, inr, append_assoc, append-nil, Option, Some, None, Vec, Global, vec_capacity}
+use Rattle.std.specs.Prelude.{nat_lt, nat_le}
 use Rattle.std.specs.List.{sum_by, filter, AllByRecursion, Contains, list_any}
-use Rattle.std.proofs.lemmas.List.{length-append, length-map, length_push}
+use Rattle.std.proofs.lemmas.List.{length-append, length-map, length_push, drop_more}
 use Rattle.std.proofs.lemmas.List.Sums.{sum_by-append}
-use Rattle.std.proofs.lemmas.List.Elements.{All-from_recursion, All-map, All-contains}
+use Rattle.std.proofs.lemmas.List.Elements.{All-from_recursion, recursion_from_All, All-map, All-contains}
 use Rattle.std.proofs.lemmas.Bool.Decides.{nat_tests}
 use Rattle.fk_trace.specs.declared.change.OpenRecord.{OpenRecord}
 use Rattle.fk_trace.specs.declared.change.Change.{Change}
-use Rattle.fk_trace.specs.declared.change.Change.TheVariants.{Open, Done}
-use Rattle.fk_trace.specs.Ledger.{opens, dones, live, next_id, IsLedger, IsLedgerFrom}
+use Rattle.fk_trace.specs.declared.change.Change.TheVariants.{Open, Done, Settled, Floor}
+use Rattle.fk_trace.specs.Ledger.{opens, dones, live, numbers, free_by, first_free, floor_of, next_by, next_from, next_id, IsNumber, MayFollow, MayMake, IsLedger, IsLedgerFrom}
+use Rattle.fk_trace.specs.Decision.{making}
 use Rattle.fk_trace.proofs.Lists.{Contains-cases}
-use Rattle.fk_trace.proofs.Ledgers.{opens-push_open, opens-push_done, dones-push_open, dones-push_done, live-push_open, live-push_done, next_id-push_open, none_at_bound}
+use Rattle.fk_trace.proofs.Ledgers.{opens-append, dones-append, numbers-append, floor_from-append, opens-push_open, opens-push_done, dones-push_open, dones-push_done, live-push_open, live-push_done, next_from-above, next_id-push, next_id-push_open, none_at_bound}
 use Rattle.fk_host.specs.Disk.{Areas, Told}
 use Rattle.fk_journal.specs.Entries.{Content, entry_bytes, entries_bytes, place_behind}
 use Rattle.fk_journal.specs.Keeps.{Log, Keeps, StandsOn}
 use Rattle.fk_ledger.specs.declared.ledger.Ledger.TheInside.{Inside}
-use Rattle.fk_ledger.specs.Payloads.{content_of, ledger_contents, record_bytes, IsRecord}
-use Rattle.fk_ledger.specs.Book.{used, live_ids}
+use Rattle.fk_ledger.specs.Payloads.{content_of, ledger_contents, record_bytes, IsRecord, IsChange}
+use Rattle.fk_ledger.specs.Book.{Book, used, needs, room_of, live_ids}
 use Rattle.fk_ledger.specs.Holds.{KeepsLedger}
 use Rattle.fk_ledger.specs.Private.{book_of, AreLedger, IsInOrder}
 use Rattle.fk_ledger.proofs.WordLists.{length-record, short_words}
@@ -107,58 +108,102 @@ removed_one id (item ∷ items) apart there =
           ]
     ] in here refl
 
--- what holds of the numbers in a ledger
+-- each number that the ledger has is below this one
+abbrev Under : ℕ → List Change → Type 0
+Under n ledger = AllByRecursion (λ (other : ℕ). other < n) (numbers ledger)
+
+recursion-left : {X : Type 0} (P : X → Type 0) (xs ys : List X) → AllByRecursion P (xs ++ ys) → AllByRecursion P xs
+recursion-left P [] ys all = tt
+recursion-left P (x ∷ xs) ys all = (all.0, recursion-left P xs ys all.1)
+
+recursion-right : {X : Type 0} (P : X → Type 0) (xs ys : List X) → AllByRecursion P (xs ++ ys) → AllByRecursion P ys
+recursion-right P [] ys all = all
+recursion-right P (x ∷ xs) ys all = recursion-right P xs ys all.1
+
+under-left : (n : ℕ) (ledger more : List Change) → Under n (ledger ++ more) → Under n ledger
+under-left n ledger more all =
+    recursion-left (λ (other : ℕ). other < n) (numbers ledger) (numbers more) (subst (AllByRecursion (λ (other : ℕ). other < n)) (numbers-append ledger more) all)
+
+under-right : (n : ℕ) (ledger more : List Change) → Under n (ledger ++ more) → Under n more
+under-right n ledger more all =
+    recursion-right (λ (other : ℕ). other < n) (numbers ledger) (numbers more) (subst (AllByRecursion (λ (other : ℕ). other < n)) (numbers-append ledger more) all)
+
+under_next : (next : ℕ) (ledger : List Change) → Under (next_from next ledger) ledger
+under_next next [] = tt
+under_next next (Open item ∷ ledger) = (let high = next_from-above (max next (item.id + 1)) ledger in omega arith, under_next (max next (item.id + 1)) ledger)
+under_next next (Done id ∷ ledger) = under_next next ledger
+under_next next (Settled id stamp digest ∷ ledger) = (let high = next_from-above (max next (id + 1)) ledger in omega arith, under_next (max next (id + 1)) ledger)
+under_next next (Floor floor first ∷ ledger) = under_next (max next first) ledger
+
+-- what may be made may follow
+pub made_follows : (ledger : List Change) (item : OpenRecord) → MayMake ledger (Open item) → MayFollow ledger (Open item)
+made_follows ledger item may =
+    (record { above = All-from_recursion (λ (other : ℕ). other < item.id) (numbers ledger) (subst (λ (n : ℕ). Under n ledger) (sym may.0) (under_next 1 ledger)); next = inr may.0 }, may.1)
+
+-- what holds of the numbers in a ledger: no record has that of another, and the records and the Dones have none but those
 record AreNumbered (ledger : List Change) : Type 0 where
   apart : Apart (opens ledger)
-  opened : AllByRecursion (λ (item : OpenRecord). item.id < next_id ledger) (opens ledger)
-  settled : AllByRecursion (λ id. id < next_id ledger) (dones ledger)
+  opened : (n : ℕ) → Under n ledger → AllByRecursion (λ (item : OpenRecord). item.id < n) (opens ledger)
+  settled : (n : ℕ) → Under n ledger → AllByRecursion (λ id. id < n) (dones ledger)
 
-live_below : (ledger : List Change) (id : ℕ) → AreNumbered ledger → Contains (map (λ item. item.id) (live ledger)) id → id < next_id ledger
-live_below ledger id are there =
-    let lives : AllByRecursion (λ (item : OpenRecord). item.id < next_id ledger) (live ledger) = recursion-filter (λ (item : OpenRecord). item.id < next_id ledger) (λ item. not (list_any (λ done. done == item.id) (dones ledger))) (opens ledger) are.opened in
-    All-contains (λ n. n < next_id ledger) (map (λ item. item.id) (live ledger)) id (All-map (λ n. n < next_id ledger) (λ (item : OpenRecord). item.id) (live ledger) (All-from_recursion (λ (item : OpenRecord). item.id < next_id ledger) (live ledger) lives)) there
+live_below : (ledger : List Change) (id n : ℕ) → AreNumbered ledger → Under n ledger → Contains (map (λ item. item.id) (live ledger)) id → id < n
+live_below ledger id n are under there =
+    let lives : AllByRecursion (λ (item : OpenRecord). item.id < n) (live ledger) = recursion-filter (λ (item : OpenRecord). item.id < n) (λ item. not (list_any (λ done. done == item.id) (dones ledger))) (opens ledger) (are.opened n under) in
+    All-contains (λ m. m < n) (map (λ item. item.id) (live ledger)) id (All-map (λ m. m < n) (λ (item : OpenRecord). item.id) (live ledger) (All-from_recursion (λ (item : OpenRecord). item.id < n) (live ledger) lives)) there
 
-numbered_open : (ledger : List Change) (item : OpenRecord) → AreNumbered ledger → item.id ≡ next_id ledger → AreNumbered (ledger ++ Open item ∷ [])
-numbered_open ledger item are at =
-    let next : next_id (ledger ++ Open item ∷ []) ≡ next_id ledger + 1 = next_id-push_open ledger item in
-    let P : ℕ → OpenRecord → Type 0 = λ n other. other.id < n in
-    let Q : ℕ → ℕ → Type 0 = λ n id. id < n in
-    record {
-      apart = subst Apart (sym (opens-push_open ledger item)) (Apart-push (opens ledger) item (next_id ledger) are.apart are.opened at);
-      opened = subst (λ (n : ℕ). AllByRecursion (P n) (opens (ledger ++ Open item ∷ []))) (sym next)
-          (subst (AllByRecursion (P (next_id ledger + 1))) (sym (opens-push_open ledger item))
-          (recursion-push (P (next_id ledger + 1)) (opens ledger) item (recursion-weaker (P (next_id ledger)) (P (next_id ledger + 1)) (λ other low. omega arith) (opens ledger) are.opened) (omega arith)));
-      settled = subst (λ (n : ℕ). AllByRecursion (Q n) (dones (ledger ++ Open item ∷ []))) (sym next)
-          (subst (AllByRecursion (Q (next_id ledger + 1))) (sym (dones-push_open ledger item)) (recursion-weaker (Q (next_id ledger)) (Q (next_id ledger + 1)) (λ id low. omega arith) (dones ledger) are.settled));
-    }
+numbered_open : (ledger : List Change) (item : OpenRecord) → AreNumbered ledger → Under item.id ledger → AreNumbered (ledger ++ Open item ∷ [])
+numbered_open ledger item are above = record {
+  apart = subst Apart (sym (opens-push_open ledger item)) (Apart-push (opens ledger) item item.id are.apart (are.opened item.id above) refl);
+  opened = λ n under.
+      let low : item.id < n = (under-right n ledger (Open item ∷ []) under).0 in
+      subst (AllByRecursion (λ (other : OpenRecord). other.id < n)) (sym (opens-push_open ledger item))
+      (recursion-push (λ (other : OpenRecord). other.id < n) (opens ledger) item (are.opened n (under-left n ledger (Open item ∷ []) under)) low);
+  settled = λ n under. subst (AllByRecursion (λ id. id < n)) (sym (dones-push_open ledger item)) (are.settled n (under-left n ledger (Open item ∷ []) under));
+}
 
 numbered_done : (ledger : List Change) (id : ℕ) → AreNumbered ledger → Contains (map (λ item. item.id) (live ledger)) id → AreNumbered (ledger ++ Done id ∷ [])
-numbered_done ledger id are there =
-    let same : opens (ledger ++ Done id ∷ []) ≡ opens ledger = opens-push_done ledger id in
-    let next : next_id (ledger ++ Done id ∷ []) ≡ next_id ledger = ap (λ items. length items + 1) same in
-    let P : ℕ → OpenRecord → Type 0 = λ n other. other.id < n in
-    let Q : ℕ → ℕ → Type 0 = λ n other. other < n in
+numbered_done ledger id are there = record {
+  apart = subst Apart (sym (opens-push_done ledger id)) are.apart;
+  opened = λ n under. subst (AllByRecursion (λ (other : OpenRecord). other.id < n)) (sym (opens-push_done ledger id)) (are.opened n (under-left n ledger (Done id ∷ []) under));
+  settled = λ n under.
+      let before : Under n ledger = under-left n ledger (Done id ∷ []) under in
+      subst (AllByRecursion (λ other. other < n)) (sym (dones-push_done ledger id))
+      (recursion-push (λ other. other < n) (dones ledger) id (are.settled n before) (live_below ledger id n are before there));
+}
+
+-- a change that opens nothing and closes nothing
+numbered_other : (ledger : List Change) (change : Change) → opens (change ∷ []) ≡ [] → dones (change ∷ []) ≡ [] → AreNumbered ledger → AreNumbered (ledger ++ change ∷ [])
+numbered_other ledger change none_opened none_closed are =
+    let opened : opens (ledger ++ change ∷ []) ≡ opens ledger = opens-append ledger (change ∷ []) ∙ ap (λ items. opens ledger ++ items) none_opened ∙ append-nil (opens ledger) in
+    let closed : dones (ledger ++ change ∷ []) ≡ dones ledger = dones-append ledger (change ∷ []) ∙ ap (λ ids. dones ledger ++ ids) none_closed ∙ append-nil (dones ledger) in
     record {
-      apart = subst Apart (sym same) are.apart;
-      opened = subst (λ (n : ℕ). AllByRecursion (P n) (opens (ledger ++ Done id ∷ []))) (sym next) (subst (AllByRecursion (P (next_id ledger))) (sym same) are.opened);
-      settled = subst (λ (n : ℕ). AllByRecursion (Q n) (dones (ledger ++ Done id ∷ []))) (sym next)
-          (subst (AllByRecursion (Q (next_id ledger))) (sym (dones-push_done ledger id)) (recursion-push (Q (next_id ledger)) (dones ledger) id are.settled (live_below ledger id are there)));
+      apart = subst Apart (sym opened) are.apart;
+      opened = λ n under. subst (AllByRecursion (λ (other : OpenRecord). other.id < n)) (sym opened) (are.opened n (under-left n ledger (change ∷ []) under));
+      settled = λ n under. subst (AllByRecursion (λ id. id < n)) (sym closed) (are.settled n (under-left n ledger (change ∷ []) under));
     }
+
+above : (ledger : List Change) (id : ℕ) → IsNumber ledger id → Under id ledger
+above ledger id is = recursion_from_All (λ (other : ℕ). other < id) (numbers ledger) is.above
 
 numbered_from : (before ledger : List Change) → IsLedgerFrom before ledger → AreNumbered before → AreNumbered (before ++ ledger)
 numbered_from before [] follow are = subst AreNumbered (sym (append-nil before)) are
 numbered_from before (Open item ∷ ledger) follow are =
-    subst AreNumbered (append_assoc before (Open item ∷ []) ledger) (numbered_from (before ++ Open item ∷ []) ledger follow.1 (numbered_open before item are follow.0.0))
+    subst AreNumbered (append_assoc before (Open item ∷ []) ledger) (numbered_from (before ++ Open item ∷ []) ledger follow.1 (numbered_open before item are (above before item.id follow.0.0)))
 numbered_from before (Done id ∷ ledger) follow are =
     subst AreNumbered (append_assoc before (Done id ∷ []) ledger) (numbered_from (before ++ Done id ∷ []) ledger follow.1 (numbered_done before id are follow.0))
+numbered_from before (Settled id stamp digest ∷ ledger) follow are =
+    subst AreNumbered (append_assoc before (Settled id stamp digest ∷ []) ledger) (numbered_from (before ++ Settled id stamp digest ∷ []) ledger follow.1 (numbered_other before (Settled id stamp digest) refl refl are))
+numbered_from before (Floor floor next ∷ ledger) follow are =
+    subst AreNumbered (append_assoc before (Floor floor next ∷ []) ledger) (numbered_from (before ++ Floor floor next ∷ []) ledger follow.1 (numbered_other before (Floor floor next) refl refl are))
 
 numbered : (ledger : List Change) → IsLedger ledger → AreNumbered ledger
-numbered ledger follow = numbered_from [] ledger follow (record { apart = tt; opened = tt; settled = tt })
+numbered ledger follow = numbered_from [] ledger follow (record { apart = tt; opened = λ n under. tt; settled = λ n under. tt })
 
 pub live_opened : (ledger : List Change) (item : OpenRecord) → IsLedger ledger → item.id ≡ next_id ledger → length (live (ledger ++ Open item ∷ [])) ≡ length (live ledger) + 1
 live_opened ledger item follow at =
     let are = numbered ledger follow in
-    let none : list_any (λ done. done == next_id ledger) (dones ledger) ≡ false = none_at_bound (dones ledger) (next_id ledger) (All-from_recursion (λ id. id < next_id ledger) (dones ledger) are.settled) in
+    let none : list_any (λ done. done == next_id ledger) (dones ledger) ≡ false =
+    none_at_bound (dones ledger) (next_id ledger) (All-from_recursion (λ id. id < next_id ledger) (dones ledger) (are.settled (next_id ledger) (under_next 1 ledger))) in
     ap length (live-push_open ledger item (ap (λ (n : ℕ). list_any (λ done. done == n) (dones ledger)) at ∙ none)) ∙ length_push (live ledger) item
 
 pub live_settled : (ledger : List Change) (id : ℕ) → IsLedger ledger → Contains (map (λ item. item.id) (live ledger)) id → length (live (ledger ++ Done id ∷ [])) + 1 ≡ length (live ledger)
@@ -167,12 +212,80 @@ live_settled ledger id follow there =
     ap (λ n. n + 1) (ap length (live-push_done ledger id))
     ∙ removed_one id (live ledger) (Apart-filter (λ item. not (list_any (λ done. done == item.id) (dones ledger))) (opens ledger) are.apart) there
 
+-- ---- the next number is one of 64 bits
+
+pub record IsCounted (ledger : List Change) : Type 0 where
+  pub free : first_free ledger ≤ 2 ^ 63
+  pub next : next_id ledger ≤ 2 ^ 63 + length ledger
+
+free_push : (ledger : List Change) (change : Change) → first_free ledger ≤ 2 ^ 63 → free_by change ≤ 2 ^ 63 → first_free (ledger ++ change ∷ []) ≤ 2 ^ 63
+free_push [] change low also = also
+free_push (first ∷ ledger) change low also = low
+
+free_small : (change : Change) → IsChange change → free_by change ≤ 2 ^ 63
+free_small (Open item) is = omega arith
+free_small (Done id) is = omega arith
+free_small (Settled id stamp digest) is = omega arith
+free_small (Floor floor next) is = is.2
+
+number_small : (ledger : List Change) (id : ℕ) → IsCounted ledger → IsNumber ledger id → id ≤ 2 ^ 63 + length ledger
+number_small ledger id counted is =
+    elim is.next [
+      | inl low ↦ omega (arith, low, counted.free)
+      | inr next ↦ omega (arith, next, counted.next)
+    ]
+
+next_small : (ledger : List Change) (change : Change) → IsCounted ledger → IsChange change → MayFollow ledger change → next_by change (next_id ledger) ≤ 2 ^ 63 + length ledger + 1
+next_small ledger (Open item) counted is may = let low = number_small ledger item.id counted may.0 in let now = counted.next in omega arith
+next_small ledger (Done id) counted is may = let now = counted.next in omega arith
+next_small ledger (Settled id stamp digest) counted is may = let low = number_small ledger id counted may.0 in let now = counted.next in omega arith
+next_small ledger (Floor floor first) counted is may = let low = is.2 in let now = counted.next in omega arith
+
+pub counted_push : (ledger : List Change) (change : Change) → IsCounted ledger → IsChange change → MayFollow ledger change → IsCounted (ledger ++ change ∷ [])
+counted_push ledger change counted is may =
+    let pushed = next_id-push ledger change in
+    let small = next_small ledger change counted is may in
+    let more : length (ledger ++ change ∷ []) ≡ length ledger + 1 = length_push ledger change in
+    record { free = free_push ledger change counted.free (free_small change is); next = omega arith }
+
+-- the number after the next change is no greater than that after all
+pub next_fits : (ledger : List Change) (i next : ℕ) (change : Change) → i < length ledger → change ≡ get_or ledger i change → next_from next (drop i ledger) ≡ next_id ledger → next_id ledger < 2 ^ 64
+    → next_by change next < 2 ^ 64
+next_fits ledger i next change within at so_far small =
+    let step : next_from next (drop i ledger) ≡ next_from (next_by change next) (drop (i + 1) ledger) = ap (next_from next) (drop_more ledger i change within ∙ ap (λ x. x ∷ drop (i + 1) ledger) (sym at)) in
+    let high = next_from-above (next_by change next) (drop (i + 1) ledger) in
+    omega arith
+
+-- ---- room
+
+none_cond : (b : Bool) (changes : List Change) → cond b (Some changes) None ≡ None → b ≡ false
+none_cond true changes e = absurd cc
+none_cond false changes e = refl
+
+-- what a ledger needs with one more record
+pub needs_opened : (ledger : List Change) (item : OpenRecord) → IsLedger ledger → item.id ≡ next_id ledger
+    → needs (ledger ++ Open item ∷ []) ≡ used ledger + (6 + length (record_bytes item)) + 14 * (length (live ledger) + 1)
+needs_opened ledger item follow at = let bytes = used-push ledger (Open item) in let lives = live_opened ledger item follow at in omega arith
+
+-- nothing is made for a record that has its place exactly where the bytes behind it are too few
+pub full_where : (book : Book) (item : OpenRecord) (lives used_to size room : ℕ) → IsLedger book.changes → MayMake book.changes (Open item) → lives ≡ length (live book.changes) → used book.changes ≡ used_to + 1
+    → lives < book.limit → next_id book.changes < 2 ^ 63 → size ≡ length (record_bytes item) → room ≡ book.room - (used_to + 1)
+    → (nat_le (6 + size + 14 * (lives + 1)) room ≡ false → making (room_of book) book.changes (Open item) ≡ None) × (making (room_of book) book.changes (Open item) ≡ None → nat_le (6 + size + 14 * (lives + 1)) room ≡ false)
+full_where book item lives used_to size room follow may counted bytes few low sizes left =
+    let need = needs_opened book.changes item follow may.0 in
+    let place_live : nat_lt (length (live book.changes)) book.limit ≡ true = grind (arith, nat_tests) in
+    let place_next : nat_lt (next_id book.changes) 9223372036854775808 ≡ true = grind (arith, nat_tests) in
+    let total : ℕ = needs (book.changes ++ Open item ∷ []) in
+    let same : nat_le (6 + size + 14 * (lives + 1)) room ≡ nat_le total book.room = grind (arith, nat_tests) in
+    let made : making (room_of book) book.changes (Open item) ≡ cond (nat_le total book.room) (Some (Open item ∷ [])) None = rw (place_live, place_next) refl in
+    (λ no. made ∙ rw (sym same ∙ no) refl, λ none. same ∙ none_cond (nat_le total book.room) (Open item ∷ []) (sym made ∙ none))
+
 -- ---- the order after one more change
 
 pub order_opened : (inside : Inside) (journal : Log) (changes : Vec Change Global) (payload : Vec ℕ Global) (item : OpenRecord) (size : ℕ) → IsInOrder inside → IsLedger inside.changes.items → item.id ≡ next_id inside.changes.items
     → size ≡ length (record_bytes item) → journal ≡ record inside.journal { end = inside.journal.end + 6 + size } → changes.items ≡ inside.changes.items ++ Open item ∷ [] → vec_capacity changes ≡ vec_capacity inside.changes
     → length inside.changes.items + inside.live + 2 ≤ vec_capacity inside.changes
-    → IsInOrder (record { journal = journal; changes = changes; live = inside.live + 1; limit = inside.limit; payload = payload })
+    → IsInOrder (record { journal = journal; changes = changes; live = inside.live + 1; next = item.id + 1; floor = inside.floor; limit = inside.limit; payload = payload })
 order_opened inside journal changes payload item size order follow at sizes journal_is items capacity slots =
     let ledger : List Change = inside.changes.items in
     let lives = live_opened ledger item follow at in
@@ -184,6 +297,8 @@ order_opened inside journal changes payload item size order follow at sizes jour
     let more : length changes.items ≡ length ledger + 1 = ap length items ∙ length_push ledger (Open item) in
     record {
       live = ap (λ n. n + 1) live_is ∙ sym lives ∙ ap (λ (xs : List Change). length (live xs)) (sym items);
+      next = ap (λ n. n + 1) at ∙ sym (next_id-push_open ledger item at) ∙ ap next_id (sym items);
+      floor = order.floor ∙ sym (floor_from-append 0 ledger (Open item ∷ [])) ∙ ap floor_of (sym items);
       used = ap used items ∙ bytes ∙ omega arith;
       room = omega arith;
       reserved = (let low = order.reserved in omega arith);
@@ -204,6 +319,8 @@ order_settled inside journal changes id size order follow there sizes journal_is
     let less : inside.live - 1 ≡ length (live (ledger ++ Done id ∷ [])) = omega arith in
     record {
       live = less ∙ ap (λ (xs : List Change). length (live xs)) (sym items);
+      next = order.next ∙ sym (next_id-push ledger (Done id)) ∙ ap next_id (sym items);
+      floor = order.floor ∙ sym (floor_from-append 0 ledger (Done id ∷ [])) ∙ ap floor_of (sym items);
       used = ap used items ∙ bytes ∙ omega arith;
       room = (let fits = order.room in omega arith);
       reserved = (let low = order.reserved in omega arith);
@@ -231,16 +348,18 @@ small_record item is =
     omega arith
 
 -- the order of a ledger that was found
-pub order_found : (journal : Log) (changes : Vec Change Global) (limit lives : ℕ) (payload : Vec ℕ Global) (found : List Change) (ids : List ℕ) (contents : List Content) → AreLedger contents found
+pub order_found : (journal : Log) (changes : Vec Change Global) (limit lives next floor : ℕ) (payload : Vec ℕ Global) (found : List Change) (ids : List ℕ) (contents : List Content) → AreLedger contents found
     → journal.end ≡ place_behind contents → 8 ≤ journal.reserved → changes.items ≡ found → ids ≡ live_ids found → lives ≡ length ids → length found + length ids ≤ vec_capacity changes
-    → IsInOrder (record { journal = journal; changes = changes; live = lives; limit = limit; payload = payload })
-order_found journal changes limit lives payload found ids contents are end reserved items ids_are lives_are fits =
+    → next ≡ next_id found → floor ≡ floor_of found → IsInOrder (record { journal = journal; changes = changes; live = lives; next = next; floor = floor; limit = limit; payload = payload })
+order_found journal changes limit lives next floor payload found ids contents are end reserved items ids_are lives_are fits next_is floor_is =
     let counted : length ids ≡ length (live found) = ap length ids_are ∙ length-map (live found) (λ (item : OpenRecord). item.id) in
     let place : used found ≡ place_behind (ledger_contents found) + 1 = used-place found in
     let same : place_behind contents ≡ place_behind (ledger_contents found) = ap place_behind are.entries in
     let more : length changes.items ≡ length found = ap length items in
     record {
       live = lives_are ∙ counted ∙ ap (λ (xs : List Change). length (live xs)) (sym items);
+      next = next_is ∙ ap next_id (sym items);
+      floor = floor_is ∙ ap floor_of (sym items);
       used = ap used items ∙ omega arith;
       room = omega arith;
       reserved = reserved;

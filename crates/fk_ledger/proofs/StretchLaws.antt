@@ -7,7 +7,8 @@ use Rattle.fk_trace.specs.declared.change.Change.{Change}
 use Rattle.std.specs.Prelude.{IfSome}
 use Rattle.std.specs.List.{AllByRecursion}
 use Rattle.std.proofs.lemmas.List.{map-append}
-use Rattle.fk_trace.specs.Ledger.{after, MayFollow, IsLedger, IsLedgerFrom}
+use Rattle.fk_trace.specs.Ledger.{after_one, after, MayFollow, IsLedger, IsLedgerFrom}
+use Rattle.fk_trace.proofs.Ledgers.{IsNoFloor, after_one-behind, after-append}
 use Rattle.fk_host.specs.Disk.{Areas, Told, IfTold, LeavesAreas}
 use Rattle.fk_journal.proofs.Told.{past_then, if_told_map, if_told_then}
 use Rattle.fk_journal.specs.Entries.{Content, IsClosedBehind, HoldsEntries}
@@ -23,7 +24,7 @@ take-within n a b =
       | inr fits ↦ let m : min n (length a) ≡ n = omega arith in rw m (take-append-le n a b fits)
     ]
 
-pub stretch_then : (ledger a b : List Change) (whole : Bool) (p q r : ℕ → Areas → Type 0) (x y z : Told) → Stretch ledger a true p q x y → Stretch (after ledger a) b whole q r y z → Stretch ledger (after a b) whole p r x z
+pub stretch_then : (ledger a b : List Change) (whole : Bool) (p q r : ℕ → Areas → Type 0) (x y z : Told) → Stretch ledger a true p q x y → Stretch (after ledger a) b whole q r y z → Stretch ledger (a ++ b) whole p r x z
 stretch_then ledger a b whole p q r x y z first second = record {
   later = omega (arith, first.later, second.later);
   past = past_then x.moments y.moments p q r first.later first.past second.past;
@@ -31,17 +32,17 @@ stretch_then ledger a b whole p q r x y z first second = record {
       elim (cases_lt y.moments k) [
         | inl later ↦
             let s = second.each k image later upto left in
-            (length a + s.0, subst (λ (ledger : List Change). HoldsState ledger image) (append_assoc ledger a (take s.0 b) ∙ ap (λ more. ledger ++ more) (sym (take-append-add a b s.0))) s.1)
+            (length a + s.0, subst (λ (ledger : List Change). HoldsState ledger image) (sym (after-append ledger a (take s.0 b)) ∙ ap (after ledger) (sym (take-append-add a b s.0))) s.1)
         | inr before ↦
             let s = first.each k image behind before ((second.past k image before).0 left) in
-            (min s.0 (length a), subst (λ (more : List Change). HoldsState (ledger ++ more) image) (sym (take-within s.0 a b)) s.1)
+            (min s.0 (length a), subst (λ (more : List Change). HoldsState (after ledger more) image) (sym (take-within s.0 a b)) s.1)
       ];
-  all = λ is image left. subst (λ (ledger : List Change). HoldsState ledger image) (append_assoc ledger a b) (second.all is image left);
+  all = λ is image left. subst (λ (ledger : List Change). HoldsState ledger image) (sym (after-append ledger a b)) (second.all is image left);
 }
 
-pub stretches_join : (s t u : Option Told) (ledger a b : List Change) (whole : Bool) (p q r : ℕ → Areas → Type 0) → IfTold s t (Stretch ledger a true p q) → IfTold t u (Stretch (after ledger a) b whole q r) → IfTold s u (Stretch ledger (after a b) whole p r)
+pub stretches_join : (s t u : Option Told) (ledger a b : List Change) (whole : Bool) (p q r : ℕ → Areas → Type 0) → IfTold s t (Stretch ledger a true p q) → IfTold t u (Stretch (after ledger a) b whole q r) → IfTold s u (Stretch ledger (a ++ b) whole p r)
 stretches_join s t u ledger a b whole p q r first second =
-    if_told_then s t u (Stretch ledger a true p q) (Stretch (after ledger a) b whole q r) (Stretch ledger (after a b) whole p r) (λ x y z one two. stretch_then ledger a b whole p q r x y z one two) first second
+    if_told_then s t u (Stretch ledger a true p q) (Stretch (after ledger a) b whole q r) (Stretch ledger (a ++ b) whole p r) (λ x y z one two. stretch_then ledger a b whole p q r x y z one two) first second
 
 -- ---- the stretch of an append
 
@@ -67,27 +68,32 @@ holds-push ledger change image each follow one may entries = record {
   follow = follow-push [] ledger change follow may;
 }
 
-pub append_stretch : (ledger : List Change) (change : Change) (whole : Bool) (old new : ℕ → Areas → Type 0) (x y : Told) → AllByRecursion IsChange ledger → IsLedger ledger → IsChange change → MayFollow ledger change
+-- a change that is no Floor stands behind the ledger
+push_state : (ledger : List Change) (change : Change) (image : Areas) → IsNoFloor change → HoldsLedger image (ledger ++ change ∷ []) → HoldsState (after ledger (change ∷ [])) image
+push_state ledger change image behind_it held =
+    subst (λ (ledger : List Change). HoldsState ledger image) (sym (after_one-behind ledger change behind_it)) (held_state (ledger ++ change ∷ []) image held)
+
+pub append_stretch : (ledger : List Change) (change : Change) (whole : Bool) (old new : ℕ → Areas → Type 0) (x y : Told) → IsNoFloor change → AllByRecursion IsChange ledger → IsLedger ledger → IsChange change → MayFollow ledger change
     → IsAppend (ledger_contents ledger) (content_of change) old new x y
     → (whole ≡ true → (image : Areas) → new y.moments image → HoldsEntries (selected image) (ledger_contents ledger ++ content_of change ∷ []))
     → Stretch ledger (change ∷ []) whole old new x y
-append_stretch ledger change whole old new x y each follow one may append all = record {
+append_stretch ledger change whole old new x y behind_it each follow one may append all = record {
   later = append.later;
   past = append.past;
   each = λ k image behind upto left.
       elim (append.each k image behind upto left) [
-        | inl before ↦ (0, subst (λ (ledger : List Change). HoldsState ledger image) (sym (append-nil ledger)) (held_state ledger image (record { entries = before; each = each; follow = follow })))
-        | inr after ↦ (1, held_state (ledger ++ change ∷ []) image (holds-push ledger change image each follow one may after))
+        | inl before ↦ (0, held_state ledger image (record { entries = before; each = each; follow = follow }))
+        | inr with ↦ (1, push_state ledger change image behind_it (holds-push ledger change image each follow one may with))
       ];
-  all = λ is image left. held_state (ledger ++ change ∷ []) image (holds-push ledger change image each follow one may (all is image left));
+  all = λ is image left. push_state ledger change image behind_it (holds-push ledger change image each follow one may (all is image left));
 }
 
 -- an append that failed
-pub failed_stretch : (ledger : List Change) (change : Change) (s t : Option Told) (old new : ℕ → Areas → Type 0) → KeepsLedger ledger s old → IsChange change → MayFollow ledger change
+pub failed_stretch : (ledger : List Change) (change : Change) (s t : Option Told) (old new : ℕ → Areas → Type 0) → IsNoFloor change → KeepsLedger ledger s old → IsChange change → MayFollow ledger change
     → IfTold s t (IsAppend (ledger_contents ledger) (content_of change) old new) → IfTold s t (Stretch ledger (change ∷ []) false old new)
-failed_stretch ledger change s t old new keeps one may append =
+failed_stretch ledger change s t old new behind_it keeps one may append =
     if_told_map s t (IsAppend (ledger_contents ledger) (content_of change) old new) (Stretch ledger (change ∷ []) false old new)
-    (λ x y a. append_stretch ledger change false old new x y keeps.each keeps.follow one may a (λ no. absurd (let n : false ≡ true = no in cc))) append
+    (λ x y a. append_stretch ledger change false old new x y behind_it keeps.each keeps.follow one may a (λ no. absurd (let n : false ≡ true = no in cc))) append
 
 -- the ledger that the disk keeps after an append
 pub kept-push : (ledger : List Change) (change : Change) (log : Log) (s t : Option Told) (old new : ℕ → Areas → Type 0) → KeepsLedger ledger s old → IsChange change → MayFollow ledger change
@@ -103,29 +109,29 @@ settled_holds : (contents : List Content) (y : Told) (new : ℕ → Areas → Ty
 settled_holds contents y new closed settled image left = inr (subst (IsClosedBehind contents) (sym (settled image left).1) closed)
 
 -- an append that ended well
-pub whole_stretch : (ledger : List Change) (change : Change) (log : Log) (s t : Option Told) (old new : ℕ → Areas → Type 0) → KeepsLedger ledger s old → IsChange change → MayFollow ledger change
+pub whole_stretch : (ledger : List Change) (change : Change) (log : Log) (s t : Option Told) (old new : ℕ → Areas → Type 0) → IsNoFloor change → KeepsLedger ledger s old → IsChange change → MayFollow ledger change
     → Keeps log (ledger_contents ledger ++ content_of change ∷ []) t new
     → IfTold s t (IsAppend (ledger_contents ledger) (content_of change) old new) → IfTold s t (Stretch ledger (change ∷ []) true old new)
-whole_stretch ledger change log s None old new keeps one may now append = tt
-whole_stretch ledger change log None (Some y) old new keeps one may now append = absurd append
-whole_stretch ledger change log (Some x) (Some y) old new keeps one may now append =
-    append_stretch ledger change true old new x y keeps.each keeps.follow one may append
+whole_stretch ledger change log s None old new behind_it keeps one may now append = tt
+whole_stretch ledger change log None (Some y) old new behind_it keeps one may now append = absurd append
+whole_stretch ledger change log (Some x) (Some y) old new behind_it keeps one may now append =
+    append_stretch ledger change true old new x y behind_it keeps.each keeps.follow one may append
     (λ is image left. settled_holds (ledger_contents ledger ++ content_of change ∷ []) y new now.held.0 now.held.1 image left)
 
 -- the same, where the entry that was appended is that of the change
-pub ok_append : (ledger : List Change) (change : Change) (content : Content) (log : Log) (s t : Option Told) (old new : ℕ → Areas → Type 0) → content_of change ≡ content → KeepsLedger ledger s old → IsChange change → MayFollow ledger change
+pub ok_append : (ledger : List Change) (change : Change) (content : Content) (log : Log) (s t : Option Told) (old new : ℕ → Areas → Type 0) → IsNoFloor change → content_of change ≡ content → KeepsLedger ledger s old → IsChange change → MayFollow ledger change
     → Keeps log (ledger_contents ledger ++ content ∷ []) t new → IfTold s t (IsAppend (ledger_contents ledger) content old new)
-    → KeepsLedger (ledger ++ change ∷ []) t new × IfTold s t (Stretch ledger (change ∷ []) true old new)
-ok_append ledger change content log s t old new same keeps one may now append =
+    → KeepsLedger (after ledger (change ∷ [])) t new × IfTold s t (Stretch ledger (change ∷ []) true old new)
+ok_append ledger change content log s t old new behind_it same keeps one may now append =
     let kept : Keeps log (ledger_contents ledger ++ content_of change ∷ []) t new = subst (λ (c : Content). Keeps log (ledger_contents ledger ++ c ∷ []) t new) (sym same) now in (
-      kept-push ledger change log s t old new keeps one may kept,
-      whole_stretch ledger change log s t old new keeps one may kept (subst (λ (c : Content). IfTold s t (IsAppend (ledger_contents ledger) c old new)) (sym same) append),
+      subst (λ (ledger : List Change). KeepsLedger ledger t new) (sym (after_one-behind ledger change behind_it)) (kept-push ledger change log s t old new keeps one may kept),
+      whole_stretch ledger change log s t old new behind_it keeps one may kept (subst (λ (c : Content). IfTold s t (IsAppend (ledger_contents ledger) c old new)) (sym same) append),
     )
 
-pub err_append : (ledger : List Change) (change : Change) (content : Content) (s t : Option Told) (old new : ℕ → Areas → Type 0) → content_of change ≡ content → KeepsLedger ledger s old → IsChange change → MayFollow ledger change
+pub err_append : (ledger : List Change) (change : Change) (content : Content) (s t : Option Told) (old new : ℕ → Areas → Type 0) → IsNoFloor change → content_of change ≡ content → KeepsLedger ledger s old → IsChange change → MayFollow ledger change
     → IfTold s t (IsAppend (ledger_contents ledger) content old new) → IfTold s t (Stretch ledger (change ∷ []) false old new)
-err_append ledger change content s t old new same keeps one may append =
-    failed_stretch ledger change s t old new keeps one may (subst (λ (c : Content). IfTold s t (IsAppend (ledger_contents ledger) c old new)) (sym same) append)
+err_append ledger change content s t old new behind_it same keeps one may append =
+    failed_stretch ledger change s t old new behind_it keeps one may (subst (λ (c : Content). IfTold s t (IsAppend (ledger_contents ledger) c old new)) (sym same) append)
 
 -- ---- calls that leave the areas
 
@@ -140,13 +146,13 @@ image_before old new x y left image here =
     ]
 
 -- what the disk keeps, each image of it holds
-pub image_holds : (ledger : List Change) (x : Told) (old : ℕ → Areas → Type 0) → KeepsLedger ledger (Some x) old → (image : Areas) → old x.moments image → HoldsState (ledger ++ []) image
+pub image_holds : (ledger : List Change) (x : Told) (old : ℕ → Areas → Type 0) → KeepsLedger ledger (Some x) old → (image : Areas) → old x.moments image → HoldsState ledger image
 image_holds ledger x old keeps image here =
-    subst (λ (ledger : List Change). HoldsState ledger image) (sym (append-nil ledger)) (held_state ledger image (record {
+    held_state ledger image (record {
       entries = settled_holds (ledger_contents ledger) x old keeps.held.0 keeps.held.1 image here;
       each = keeps.each;
       follow = keeps.follow;
-    }))
+    })
 
 left_told : (ledger : List Change) (old new : ℕ → Areas → Type 0) (x y : Told) → KeepsLedger ledger (Some x) old → LeavesAreas old new x y → Stretch ledger [] true old new x y
 left_told ledger old new x y keeps left = record {

@@ -81,18 +81,18 @@ short_word words i word are within at =
     let sizes = length-concat-take words i word within in let short = are.short in let same = ap length at in omega arith
 
 -- a record's payload as it is put together
-pub put_together : (b0 b1 b2 b3 b4 b5 b6 b7 b8 id digest moment due ip port words : List ℕ) (proto : ℕ)
-    → b0 ≡ [] → b1 ≡ b0 ++ id → b2 ≡ b1 ++ digest → b3 ≡ b2 ++ moment → b4 ≡ b3 ++ due → b5 ≡ b4 ++ ip → b6 ≡ b5 ++ proto ∷ [] → b7 ≡ b6 ++ port → b8 ≡ b7 ++ words
-    → b8 ≡ id ++ (digest ++ (moment ++ (due ++ (ip ++ (proto ∷ (port ++ words))))))
-put_together b0 b1 b2 b3 b4 b5 b6 b7 b8 id digest moment due ip port words proto e0 e1 e2 e3 e4 e5 e6 e7 e8 =
-    e8 ∙ ap (λ x. x ++ words) (e7 ∙ ap (λ x. x ++ port) (e6 ∙ ap (λ x. x ++ proto ∷ []) (e5 ∙ ap (λ x. x ++ ip) (e4 ∙ ap (λ x. x ++ due) (e3 ∙ ap (λ x. x ++ moment) (e2 ∙ ap (λ x. x ++ digest) (e1 ∙ ap (λ x. x ++ id) e0)))))))
+pub put_together : (b0 b1 b2 b3 b4 b5 b6 b7 b8 b9 id digest stamp moment due ip port words : List ℕ) (proto : ℕ)
+    → b0 ≡ [] → b1 ≡ b0 ++ id → b2 ≡ b1 ++ digest → b3 ≡ b2 ++ stamp → b4 ≡ b3 ++ moment → b5 ≡ b4 ++ due → b6 ≡ b5 ++ ip → b7 ≡ b6 ++ proto ∷ [] → b8 ≡ b7 ++ port → b9 ≡ b8 ++ words
+    → b9 ≡ id ++ (digest ++ (stamp ++ (moment ++ (due ++ (ip ++ (proto ∷ (port ++ words)))))))
+put_together b0 b1 b2 b3 b4 b5 b6 b7 b8 b9 id digest stamp moment due ip port words proto e0 e1 e2 e3 e4 e5 e6 e7 e8 e9 =
+    e9 ∙ ap (λ x. x ++ words) (e8 ∙ ap (λ x. x ++ port) (e7 ∙ ap (λ x. x ++ proto ∷ []) (e6 ∙ ap (λ x. x ++ ip) (e5 ∙ ap (λ x. x ++ due) (e4 ∙ ap (λ x. x ++ moment) (e3 ∙ ap (λ x. x ++ stamp) (e2 ∙ ap (λ x. x ++ digest) (e1 ∙ ap (λ x. x ++ id) e0))))))))
     ∙ simp append_assoc
 
-pub length-record : (item : OpenRecord) → length (record_bytes item) ≡ 31 + length item.digest.0 + length (words_bytes item.close)
+pub length-record : (item : OpenRecord) → length (record_bytes item) ≡ 39 + length item.digest.0 + length (words_bytes item.close)
 length-record item =
     let words : List ℕ = words_bytes item.close in
-    let rest : List ℕ = to_be_bytes w64 item.moment ++ (to_be_bytes w64 item.due ++ (to_be_bytes w32 item.ip.0 ++ (proto_number item.pair.proto ∷ (to_be_bytes w16 item.pair.port ++ words)))) in
-    let behind : length rest ≡ 23 + length words = omega arith in
+    let rest : List ℕ = to_be_bytes w64 item.stamp ++ (to_be_bytes w64 item.moment ++ (to_be_bytes w64 item.due ++ (to_be_bytes w32 item.ip.0 ++ (proto_number item.pair.proto ∷ (to_be_bytes w16 item.pair.port ++ words))))) in
+    let behind : length rest ≡ 31 + length words = omega arith in
     let all : length (record_bytes item) ≡ 8 + length (item.digest.0 ++ rest) = omega arith in
     let both = length-append item.digest.0 rest in
     omega arith

@@ -1,8 +1,8 @@
 //! Lists of changes: read from a journal's entries, and asked for what they say.
 ghost use Rattle.std.specs.Prelude.{◌≡◌, ◌↔◌, ℕ, ◌==◌, ◌<◌, ◌^◌, [], ◌∷◌, IfOk, IsErrOf, IsTrue};
-ghost use Rattle.std.specs.List.{find, list_any};
+ghost use Rattle.std.specs.List.{find, list_all, list_any};
 ghost use Rattle.std.specs.Option.{option_copied, option_to_list};
-ghost use Rattle.fk_trace.specs.Ledger.{live, opens, floor_by, floor_of, first_free, next_by, next_id, IsNumber, IsSeen, MayFollow};
+ghost use Rattle.fk_trace.specs.Ledger.{live, opened_by, opens, floor_by, floor_of, first_free, next_by, next_id, IsNumber, IsSeen, MayFollow};
 ghost use Rattle.fk_journal.specs.Entries.{ArePlacedFrom, content_of_entry, contents_of};
 ghost use Rattle.fk_journal.specs.declared.fault.JournalErr.TheVariants.{Disk as DiskFails};
 ghost use Rattle.fk_ledger.specs.Book.{live_ids};
@@ -78,8 +78,14 @@ fn is_number(changes: &[Change], id: u64) -> bool
     requires { next_id changes.now < 2 ^ 64 }
     ensures { IsTrue result ↔ IsNumber changes.now id }
 {
+    are_below(changes, id) && (id < first_free(changes) || id == next_id(changes))
+}
+
+/// Whether each record has a number below this one.
+fn are_below(changes: &[Change], id: u64) -> bool
+    ensures { result ≡ list_all (is_below id) changes.now }
+{
     changes.iter().all(|change| is_below(change, id))
-        && (id < first_free(changes) || id == next_id(changes))
 }
 
 fn is_below(change: &Change, id: u64) -> bool
@@ -171,7 +177,14 @@ pub(crate) fn live_record(changes: &[Change], id: u64) -> Option<&OpenRecord>
     if is_done(changes, id) {
         return None;
     }
-    match opening(changes, id)? {
+    opened_by(opening(changes, id)?)
+}
+
+/// The record that the change made.
+fn opened_by(change: &Change) -> Option<&OpenRecord>
+    ensures { option_copied result ≡ opened_by change.now }
+{
+    match change {
         Change::Open(item) => Some(item),
         _ => None,
     }

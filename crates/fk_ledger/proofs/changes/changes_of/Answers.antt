@@ -5,6 +5,7 @@ use Rattle.fk_trace.specs.Ledger.{MayFollow}
 use Rattle.fk_journal.specs.Entries.{content_of_entry}
 use Rattle.fk_ledger.specs.Holds.{IsBroken}
 use Rattle.fk_ledger.proofs.EntryLists.{ledger_step, ledger_break}
+use Rattle.fk_ledger.proofs.RoomLaws.{counted_push}
 use Rattle.std.specs.Prelude.{Result}
 use Rattle.fk_journal.specs.declared.fault.JournalErr.{JournalErr}
 use Rattle.fk_journal.specs.declared.fault.JournalErr.TheVariants.{Damaged}
@@ -25,11 +26,14 @@ returns-in_err-next_change-clause-damaged c =
     let p = err_from_is_err_and c.from_residual.result c.from_residual.ensures.1 in
     rw (p.1, p.2) (λ place is.
     let broken = c.in_err-next_change.ensures.damaged place (same_error c.in_err-next_change.field-0.0 place is) in
-    ledger_break c.args.entries.now c.loop-entry.entry-index c.entry-item.result c.loop-entry.changes.items place c.requires c.loop-entry-test.true c.entry-item.is c.loop-entry.invariant
+    ledger_break c.args.entries.now c.loop-entry.entry-index c.entry-item.result c.loop-entry.changes.items place c.requires c.loop-entry-test.true c.entry-item.is c.loop-entry.invariant.0
     (broken.0, subst (λ (ledger : List Change). IsBroken ledger (content_of_entry c.entry-item.result)) c.deref.ensures.value broken.1))
 
 pub loop-entry-preserved : goal.loop-entry-preserved
 loop-entry-preserved c =
     let found = c.in_ok-next_change.ensures.found in
-    rw c.in_ok-push.ensures.items (ledger_step c.args.entries.now c.loop-entry.entry-index c.entry-item.result c.loop-entry.changes.items c.in_ok-next_change.field-0 c.loop-entry-test.true c.entry-item.is c.loop-entry.invariant
-    found.0 found.1 (subst (λ (ledger : List Change). MayFollow ledger c.in_ok-next_change.field-0) c.deref.ensures.value found.2))
+    let may : MayFollow c.loop-entry.changes.items c.in_ok-next_change.field-0 = subst (λ (ledger : List Change). MayFollow ledger c.in_ok-next_change.field-0) c.deref.ensures.value found.2 in
+    rw c.in_ok-push.ensures.items (
+      ledger_step c.args.entries.now c.loop-entry.entry-index c.entry-item.result c.loop-entry.changes.items c.in_ok-next_change.field-0 c.loop-entry-test.true c.entry-item.is c.loop-entry.invariant.0 found.0 found.1 may,
+      counted_push c.loop-entry.changes.items c.in_ok-next_change.field-0 c.loop-entry.invariant.1 found.0 may,
+    )

@@ -1,9 +1,6 @@
 use Rattle.std.proofs.Common.{◌∙◌}
-use Rattle.fk_ledger.proofs.ChangeLists.{may_open, may_done}
+use Rattle.fk_ledger.proofs.ChangeLists.{may_done}
 use Rattle.fk_ledger.proofs.changes.may_follow.Goals as goal
-
-pub returns-then-item-next_id : goal.returns-then-item-next_id
-returns-then-item-next_id c = rw c.in-Open.is (may_open c.args.changes.now c.in-Open.item c.is_seen.result c.is_seen.ensures (c.if-item-next_id.true ∙ c.next_id.ensures))
 
 pub returns-in-Done : goal.returns-in-Done
 returns-in-Done c = rw c.in-Done.is (may_done c.args.changes.now c.in-Done.id c.live_record.result c.is_some.result c.is_some.ensures c.live_record.ensures)

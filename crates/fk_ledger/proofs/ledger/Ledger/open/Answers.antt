@@ -3,6 +3,7 @@ use Rattle.std.proofs.lemmas.Result.{err_from_is_err_and}
 use Rattle.fk_journal.specs.Entries.{contents_of, place_behind, HoldsEntries}
 use Rattle.fk_journal.specs.Keeps.{selected}
 use Rattle.fk_host.specs.Disk.{IfTold}
+use Rattle.fk_trace.specs.Ledger.{next_id, floor_of}
 use Rattle.fk_ledger.specs.Book.{live_ids}
 use Rattle.fk_ledger.proofs.RoomLaws.{order_found}
 use Rattle.fk_journal.specs.declared.entry.Entry.{Entry}
@@ -53,9 +54,9 @@ invariant_of-ledger g c =
     let fits : length c.in_ok-changes.changes.items + length c.in_ok-ids.ids.items ≤ vec_capacity c.reserve.new.self = omega arith in
     let again = c.len-2.ensures in
     let lives : c.len-2.result ≡ length c.in_ok-ids.ids.items = omega arith in
-    order_found c.in_ok-journal.journal c.reserve.new.self c.args.live c.len-2.result c.new.result c.in_ok-changes.changes.items c.in_ok-ids.ids.items (contents_of c.deref.result.now) c.in_ok-changes.ensures.held
+    order_found c.in_ok-journal.journal c.reserve.new.self c.args.live c.len-2.result c.next_id-next.result c.floor_of-floor.result c.new.result c.in_ok-changes.changes.items c.in_ok-ids.ids.items (contents_of c.deref.result.now) c.in_ok-changes.ensures.held
     (c.in_ok-journal.ensures.keeps.behind ∙ ap (λ (es : List Entry). place_behind (contents_of es)) (sym c.deref.ensures.value)) c.in_ok-journal.ensures.fresh.2 c.in_ok-reserve.ensures.items
-    (c.in_ok-ids.ensures ∙ ap live_ids c.deref-2.ensures.value) lives fits
+    (c.in_ok-ids.ensures ∙ ap live_ids c.deref-2.ensures.value) lives fits (c.next_id-next.ensures ∙ ap next_id c.deref-3.ensures.value) (c.floor_of-floor.ensures ∙ ap floor_of c.deref-4.ensures.value)
 
 pub returns-clause-moments : goal.returns-clause-moments
 returns-clause-moments g c = λ ledger.

@@ -1,4 +1,4 @@
-use Rattle.std.proofs.Common.{◌≡◌, ℕ, ◌≤◌, length, List, [], ◌∷◌, ◌++◌, refl, ap, sym, subst, ◌∙◌, inl}
+use Rattle.std.proofs.Common.{◌≡◌, ℕ, ◌≤◌, length, List, [], ◌∷◌, ◌++◌, refl, ap, sym, subst, ◌∙◌, arith}
 use Rattle.fk_trace.specs.declared.change.Change.{Change}
 use Rattle.fk_trace.specs.declared.change.Change.TheVariants.{Open}
 use Rattle.fk_trace.specs.Ledger.{IsLedger, next_id}
@@ -8,7 +8,7 @@ use Rattle.fk_ledger.specs.Book.{Book, used}
 use Rattle.fk_host.specs.declared.disk.Area.{Area}
 use Rattle.fk_journal.specs.Keeps.{StandsOn}
 use Rattle.fk_ledger.specs.Holds.{KeepsLedger}
-use Rattle.fk_ledger.proofs.RoomLaws.{journal_keeps, order_opened, slots, long_record, small_record}
+use Rattle.fk_ledger.proofs.RoomLaws.{journal_keeps, made_follows, order_opened, slots, long_record, small_record}
 use Rattle.fk_ledger.proofs.StretchLaws.{ok_append, err_append}
 use Rattle.fk_ledger.proofs.ledger.Ledger.record.Goals as goal
 
@@ -18,7 +18,7 @@ open_content payload = record { kind = 1; payload = payload }
 pub append-requires-clause-content : goal.append-requires-clause-content
 append-requires-clause-content g c =
     let bytes : c.deref.result.now ≡ record_bytes c.args.item = c.deref.ensures.value ∙ c.write_record.ensures.bytes in
-    subst (λ (payload : List ℕ). IsContent (open_content payload)) (sym bytes) (record { kind = inl refl; size = small_record c.args.item c.write_record.ensures.values })
+    subst (λ (payload : List ℕ). IsContent (open_content payload)) (sym bytes) (record { kind = (omega arith, omega arith); size = small_record c.args.item c.write_record.ensures.values })
 
 pub append-requires-clause-keeps : goal.append-requires-clause-keeps
 append-requires-clause-keeps g c =
@@ -43,7 +43,7 @@ returns-in-Ok-clause-keeps g c =
     let bytes : c.deref.result.now ≡ record_bytes c.args.item = c.deref.ensures.value ∙ c.write_record.ensures.bytes in
     let old = journal_keeps ledger c.self.inside.journal (g.D.Disk.told c.args.disk.now) (g.D.Disk.may_leave c.args.disk.now) (ap used (sym changes) ∙ c.self.invariant.used) stands c.requires.keeps in
     let both = ok_append ledger (Open c.args.item) (open_content c.deref.result.now) c.append.new.self (g.D.Disk.told c.args.disk.now) (g.D.Disk.told c.append.new.disk) (g.D.Disk.may_leave c.args.disk.now) (g.D.Disk.may_leave c.append.new.disk)
-    (ap open_content (sym bytes)) c.requires.keeps c.write_record.ensures.values c.requires.next (c.in-Ok.ensures.keeps (ledger_contents ledger) old) (c.in-Ok.ensures.moments (ledger_contents ledger) old) in
+    tt (ap open_content (sym bytes)) c.requires.keeps c.write_record.ensures.values (made_follows ledger c.args.item c.requires.next) (c.in-Ok.ensures.keeps (ledger_contents ledger) old) (c.in-Ok.ensures.moments (ledger_contents ledger) old) in
     let items : c.push_reserved.new.self.items ≡ ledger ++ Open c.args.item ∷ [] = c.push_reserved.ensures.items ∙ ap (λ (x : List Change). x ++ Open c.args.item ∷ []) changes in
     subst (λ (x : List Change). KeepsLedger x (g.D.Disk.told c.append.new.disk) (g.D.Disk.may_leave c.append.new.disk)) (sym items) both.0
 
@@ -55,7 +55,7 @@ returns-in-Ok-clause-moments g c =
     let bytes : c.deref.result.now ≡ record_bytes c.args.item = c.deref.ensures.value ∙ c.write_record.ensures.bytes in
     let old = journal_keeps ledger c.self.inside.journal (g.D.Disk.told c.args.disk.now) (g.D.Disk.may_leave c.args.disk.now) (ap used (sym changes) ∙ c.self.invariant.used) stands c.requires.keeps in
     (ok_append ledger (Open c.args.item) (open_content c.deref.result.now) c.append.new.self (g.D.Disk.told c.args.disk.now) (g.D.Disk.told c.append.new.disk) (g.D.Disk.may_leave c.args.disk.now) (g.D.Disk.may_leave c.append.new.disk)
-    (ap open_content (sym bytes)) c.requires.keeps c.write_record.ensures.values c.requires.next (c.in-Ok.ensures.keeps (ledger_contents ledger) old) (c.in-Ok.ensures.moments (ledger_contents ledger) old)).1
+    tt (ap open_content (sym bytes)) c.requires.keeps c.write_record.ensures.values (made_follows ledger c.args.item c.requires.next) (c.in-Ok.ensures.keeps (ledger_contents ledger) old) (c.in-Ok.ensures.moments (ledger_contents ledger) old)).1
 
 pub returns-in-Err-clause-moments : goal.returns-in-Err-clause-moments
 returns-in-Err-clause-moments g c =
@@ -65,7 +65,7 @@ returns-in-Err-clause-moments g c =
     let bytes : c.deref.result.now ≡ record_bytes c.args.item = c.deref.ensures.value ∙ c.write_record.ensures.bytes in
     let old = journal_keeps ledger c.self.inside.journal (g.D.Disk.told c.args.disk.now) (g.D.Disk.may_leave c.args.disk.now) (ap used (sym changes) ∙ c.self.invariant.used) stands c.requires.keeps in
     err_append ledger (Open c.args.item) (open_content c.deref.result.now) (g.D.Disk.told c.args.disk.now) (g.D.Disk.told c.append.new.disk) (g.D.Disk.may_leave c.args.disk.now) (g.D.Disk.may_leave c.append.new.disk)
-    (ap open_content (sym bytes)) c.requires.keeps c.write_record.ensures.values c.requires.next (c.in-Err.ensures.moments (ledger_contents ledger) old)
+    tt (ap open_content (sym bytes)) c.requires.keeps c.write_record.ensures.values (made_follows ledger c.args.item c.requires.next) (c.in-Err.ensures.moments (ledger_contents ledger) old)
 
 pub returns-in-Ok-clause-stands : goal.returns-in-Ok-clause-stands
 returns-in-Ok-clause-stands g c =

@@ -40,7 +40,7 @@ returns-in-Ok-clause-keeps g c =
     let content : content_of (Done c.args.owed) ≡ done_content c.to_be_bytes.result = ap done_content (sym (c.to_be_bytes.ensures ∙ ap (to_be_bytes w64) same)) in
     let old = journal_keeps ledger c.self.inside.journal (g.D.Disk.told c.args.disk.now) (g.D.Disk.may_leave c.args.disk.now) (ap used (sym changes) ∙ c.self.invariant.used) stands c.requires.keeps in
     let both = ok_append ledger (Done c.args.owed) (done_content c.to_be_bytes.result) c.append.new.self (g.D.Disk.told c.args.disk.now) (g.D.Disk.told c.append.new.disk) (g.D.Disk.may_leave c.args.disk.now) (g.D.Disk.may_leave c.append.new.disk)
-    content c.requires.keeps (subst (λ (n : ℕ). n < 2 ^ 64) same c.id-id.type_inv) c.requires.lives (c.in-Ok.ensures.keeps (ledger_contents ledger) old) (c.in-Ok.ensures.moments (ledger_contents ledger) old) in
+    tt content c.requires.keeps (subst (λ (n : ℕ). n < 2 ^ 64) same c.id-id.type_inv) c.requires.lives (c.in-Ok.ensures.keeps (ledger_contents ledger) old) (c.in-Ok.ensures.moments (ledger_contents ledger) old) in
     let items : c.push_reserved.new.self.items ≡ ledger ++ Done c.args.owed ∷ [] = c.push_reserved.ensures.items ∙ ap (λ (x : List Change). x ++ Done c.id-id.result ∷ []) changes ∙ ap (λ (n : ℕ). ledger ++ Done n ∷ []) same in
     subst (λ (x : List Change). KeepsLedger x (g.D.Disk.told c.append.new.disk) (g.D.Disk.may_leave c.append.new.disk)) (sym items) both.0
 
@@ -53,7 +53,7 @@ returns-in-Ok-clause-moments g c =
     let content : content_of (Done c.args.owed) ≡ done_content c.to_be_bytes.result = ap done_content (sym (c.to_be_bytes.ensures ∙ ap (to_be_bytes w64) same)) in
     let old = journal_keeps ledger c.self.inside.journal (g.D.Disk.told c.args.disk.now) (g.D.Disk.may_leave c.args.disk.now) (ap used (sym changes) ∙ c.self.invariant.used) stands c.requires.keeps in
     (ok_append ledger (Done c.args.owed) (done_content c.to_be_bytes.result) c.append.new.self (g.D.Disk.told c.args.disk.now) (g.D.Disk.told c.append.new.disk) (g.D.Disk.may_leave c.args.disk.now) (g.D.Disk.may_leave c.append.new.disk)
-    content c.requires.keeps (subst (λ (n : ℕ). n < 2 ^ 64) same c.id-id.type_inv) c.requires.lives (c.in-Ok.ensures.keeps (ledger_contents ledger) old) (c.in-Ok.ensures.moments (ledger_contents ledger) old)).1
+    tt content c.requires.keeps (subst (λ (n : ℕ). n < 2 ^ 64) same c.id-id.type_inv) c.requires.lives (c.in-Ok.ensures.keeps (ledger_contents ledger) old) (c.in-Ok.ensures.moments (ledger_contents ledger) old)).1
 
 pub returns-in-Err-clause-moments : goal.returns-in-Err-clause-moments
 returns-in-Err-clause-moments g c =
@@ -64,7 +64,7 @@ returns-in-Err-clause-moments g c =
     let content : content_of (Done c.args.owed) ≡ done_content c.to_be_bytes.result = ap done_content (sym (c.to_be_bytes.ensures ∙ ap (to_be_bytes w64) same)) in
     let old = journal_keeps ledger c.self.inside.journal (g.D.Disk.told c.args.disk.now) (g.D.Disk.may_leave c.args.disk.now) (ap used (sym changes) ∙ c.self.invariant.used) stands c.requires.keeps in
     err_append ledger (Done c.args.owed) (done_content c.to_be_bytes.result) (g.D.Disk.told c.args.disk.now) (g.D.Disk.told c.append.new.disk) (g.D.Disk.may_leave c.args.disk.now) (g.D.Disk.may_leave c.append.new.disk)
-    content c.requires.keeps (subst (λ (n : ℕ). n < 2 ^ 64) same c.id-id.type_inv) c.requires.lives (c.in-Err.ensures.moments (ledger_contents ledger) old)
+    tt content c.requires.keeps (subst (λ (n : ℕ). n < 2 ^ 64) same c.id-id.type_inv) c.requires.lives (c.in-Err.ensures.moments (ledger_contents ledger) old)
 
 pub returns-in-Ok-clause-stands : goal.returns-in-Ok-clause-stands
 returns-in-Ok-clause-stands g c =
