@@ -8,6 +8,7 @@ use Rattle.std.proofs.lemmas.List.Elements.{All-append, All-from_recursion}
 use Rattle.fk_trace.specs.declared.change.Change.{Change}
 use Rattle.fk_trace.specs.Trace.{Event, Item}
 use Rattle.fk_trace.specs.Ledger.{after}
+use Rattle.fk_trace.proofs.Ledgers.{after-append}
 use Rattle.fk_run.specs.Left.{IsCutAt, MayStandBefore}
 use Rattle.fk_run.proofs.Cutting.{cut-later, cut-earlier, recursion-joined, take-within}
 use Rattle.fk_host.specs.Disk.{Areas, Told, IfTold, KeepsPast, Passes, Same, LeavesAreas}
@@ -124,7 +125,7 @@ quiet-moments items ledger old new x y stretch = record {
         count = 0;
         enough = omega arith;
         cut = record { changes_before_attempts = inl (omega arith); others_before_changes = inl refl };
-        holds = subst (λ (cs : List Change). HoldsState (ledger ++ cs) image) (take_all front.0 [] (omega arith)) front.1;
+        holds = subst (λ (cs : List Change). HoldsState (after ledger cs) image) (take_all front.0 [] (omega arith)) front.1;
       };
   last = λ image here. record {
     count = 0;
@@ -255,12 +256,12 @@ items-then xs ys x y z m l n k = record {
 }
 
 module _ (xs ys : List Item) (ledger a b : List Change) (order : MayStandBefore xs a ys b) where
-  front-later : (least k : ℕ) (image : Areas) → AllByRecursion (λ item. item.moments ≤ k) xs → HoldsFront ys (ledger ++ a) b least k image → HoldsFront (xs ++ ys) ledger (a ++ b) (length a + least) k image
+  front-later : (least k : ℕ) (image : Areas) → AllByRecursion (λ item. item.moments ≤ k) xs → HoldsFront ys (after ledger a) b least k image → HoldsFront (xs ++ ys) ledger (a ++ b) (length a + least) k image
   front-later least k image done front = record {
     count = length a + front.count;
     enough = let l = front.enough in omega (arith, l);
     cut = cut-later xs ys a b k front.count order done front.cut;
-    holds = subst (λ (held : List Change). HoldsState held image) (append_assoc ledger a (take front.count b) ∙ ap (λ more. ledger ++ more) (sym (take-append-add a b front.count))) front.holds;
+    holds = subst (λ (held : List Change). HoldsState held image) (sym (after-append ledger a (take front.count b)) ∙ ap (after ledger) (sym (take-append-add a b front.count))) front.holds;
   }
 
   front-earlier : (k : ℕ) (image : Areas) → AllByRecursion (λ item. k < item.moments) ys → HoldsFront xs ledger a 0 k image → HoldsFront (xs ++ ys) ledger (a ++ b) 0 k image
@@ -268,7 +269,7 @@ module _ (xs ys : List Item) (ledger a b : List Change) (order : MayStandBefore 
     count = min front.count (length a);
     enough = omega arith;
     cut = cut-earlier xs ys a b k front.count order ahead front.cut;
-    holds = subst (λ (more : List Change). HoldsState (ledger ++ more) image) (sym (take-within front.count a b)) front.holds;
+    holds = subst (λ (more : List Change). HoldsState (after ledger more) image) (sym (take-within front.count a b)) front.holds;
   }
 
   front-weaker : (low high k : ℕ) (image : Areas) → low ≤ high → HoldsFront (xs ++ ys) ledger (a ++ b) high k image → HoldsFront (xs ++ ys) ledger (a ++ b) low k image
@@ -279,7 +280,7 @@ module _ (xs ys : List Item) (ledger a b : List Change) (order : MayStandBefore 
   made-joined false = let l = length-append a b in omega (arith, l)
 
   moments-then : (whole : Bool) (p q r : ℕ → Areas → Type 0) (x y z : Told) → AddsItems xs x y → AddsItems ys y z
-      → Moments (HoldsFront xs ledger a) (length a) p q x y → Moments (HoldsFront ys (ledger ++ a) b) (made_of whole b) q r y z
+      → Moments (HoldsFront xs ledger a) (length a) p q x y → Moments (HoldsFront ys (after ledger a) b) (made_of whole b) q r y z
       → Moments (HoldsFront (xs ++ ys) ledger (a ++ b)) (made_of whole (a ++ b)) p r x z
   moments-then whole p q r x y z m n first second =
       let done : (k : ℕ) → y.moments ≤ k → AllByRecursion (λ item. item.moments ≤ k) xs =
@@ -300,7 +301,7 @@ module _ (xs ys : List Item) (ledger a b : List Change) (order : MayStandBefore 
       }
 
   items-told : (whole : Bool) (p q r : ℕ → Areas → Type 0) (s t u : Option Told) → IfTold s t (AddsItems xs) → IfTold t u (AddsItems ys)
-      → IfTold s t (Moments (HoldsFront xs ledger a) (length a) p q) → IfTold t u (Moments (HoldsFront ys (ledger ++ a) b) (made_of whole b) q r)
+      → IfTold s t (Moments (HoldsFront xs ledger a) (length a) p q) → IfTold t u (Moments (HoldsFront ys (after ledger a) b) (made_of whole b) q r)
       → IfTold s u (AddsItems (xs ++ ys)) × IfTold s u (Moments (HoldsFront (xs ++ ys) ledger (a ++ b)) (made_of whole (a ++ b)) p r)
   items-told whole p q r s t None m n first second = (tt, tt)
   items-told whole p q r s None (Some z) m n first second = absurd n
@@ -318,6 +319,6 @@ module _ (xs ys : List Item) (ledger a b : List Change) (order : MayStandBefore 
         moments = both.1;
         faults = recursion-joined (λ (item : Item). item.faults ≡ first.faults) xs ys s.faults
             (recursion-weaker (λ (item : Item). item.faults ≡ second.faults) (λ item. item.faults ≡ first.faults) (λ item e. e ∙ disk) ys t.faults);
-        others = others-told (HoldsFront xs ledger a) (HoldsFront ys (ledger ++ a) b) (length a) (made_of whole b) first.images second.images third.images first.told second.told third.told
+        others = others-told (HoldsFront xs ledger a) (HoldsFront ys (after ledger a) b) (length a) (made_of whole b) first.images second.images third.images first.told second.told third.told
             s.moments t.moments s.others t.others;
       }

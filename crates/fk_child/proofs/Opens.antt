@@ -17,12 +17,12 @@ use Rattle.fk_ledger.specs.Book.{live_ids}
 use Rattle.fk_child.specs.View.{View}
 use Rattle.fk_child.specs.Crew.{CrewState, CrewHost, StandsAt, obligation_of, obligations_but}
 use Rattle.fk_child.specs.Calls.{Goes, Attempts, AwaitsOpen, recorded}
-use Rattle.fk_child.proofs.Records.{live-below, owed-live, was-ledger, numbered-next, live-recorded, owed-recorded}
+use Rattle.fk_child.proofs.Records.{live-below, owed-live, live-recorded, owed-recorded}
 use Rattle.fk_child.proofs.Ties.{with_host}
 
 module _ (id due : ℕ) (item : OpenRecord) (place : Place) (crew : CrewState) (host : View) (awaits : AwaitsOpen id due item place (with_host crew host)) where
   next-id : id ≡ next_id place.ledger
-  next-id = sym awaits.numbered ∙ numbered-next place.ledger item awaits.keeps.follow
+  next-id = sym awaits.numbered ∙ awaits.next
 
   -- nothing is kept for it
   pub unknown-next : is_kept id crew.kept ≡ false
@@ -30,7 +30,7 @@ module _ (id due : ℕ) (item : OpenRecord) (place : Place) (crew : CrewState) (
       is_kept-owed crew.kept place.past place.ends (obligations_but crew.unsettled place.ledger) awaits.tied.stands id
       ∙ false_from_ne_true (is_owed (obligations_but crew.unsettled place.ledger) id) (λ owed.
       let at = owed-live crew.unsettled place.ledger id owed in
-      let low = live-below place.ledger (was-ledger place.ledger item awaits.keeps.follow) at.0 at.1 in
+      let low = live-below place.ledger at.0 at.1 in
       let same = at.2 in
       let next = next-id in
       absurd (omega arith))
@@ -47,13 +47,13 @@ module _ (id due : ℕ) (item : OpenRecord) (place : Place) (crew : CrewState) (
       → StandsAt (with_host crew' host) (recorded place item)
   stands-recorded crew' settled owes holds waits tells =
       let follow = awaits.keeps.follow in
-      let lives = live-recorded place.ledger item follow in
+      let lives = live-recorded place.ledger item follow awaits.next in
       let number : OpenRecord → ℕ = λ r. r.id in
       let ids : live_ids (recorded place item).ledger ≡ live_ids place.ledger ++ id ∷ [] =
       ap (map number) lives ∙ map-append number (live place.ledger) (item ∷ []) ∙ ap (λ (n : ℕ). live_ids place.ledger ++ n ∷ []) awaits.numbered in
       let none : crew'.unsettled ≡ [] = waits ∙ settled in
       let owed : obligations_but [] place.ledger ++ record { id = id; due = due } ∷ [] ≡ obligations_but [] (recorded place item).ledger =
-      ap (λ (o : Obligation). obligations_but [] place.ledger ++ o ∷ []) (sym obligation) ∙ sym (owed-recorded place.ledger item follow) in
+      ap (λ (o : Obligation). obligations_but [] place.ledger ++ o ∷ []) (sym obligation) ∙ sym (owed-recorded place.ledger item follow awaits.next) in
       record {
         tied = record {
           owes = owes ∙ ap (λ (ns : List ℕ). ns ++ id ∷ []) awaits.tied.owes ∙ sym ids;
@@ -61,7 +61,7 @@ module _ (id due : ℕ) (item : OpenRecord) (place : Place) (crew : CrewState) (
           stands = rw none (subst (λ (l : List Obligation). Stands crew'.kept place.past place.ends l) owed (subst (λ (u : List ℕ). Stands crew'.kept place.past place.ends (obligations_but u place.ledger ++ record { id = id; due = due } ∷ [])) settled tells));
           waits = rw none (λ k d l. absurd (omega arith));
           once = rw none (λ i j d l m. absurd (omega arith));
-          unused = λ other above. awaits.tied.unused other (let more = next_id-push_open place.ledger item in omega arith);
+          unused = λ other above. awaits.tied.unused other (let more = next_id-push_open place.ledger item awaits.next in omega arith);
           known = awaits.tied.known;
           below = awaits.tied.below;
         };

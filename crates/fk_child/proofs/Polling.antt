@@ -129,7 +129,7 @@ module _ (moment : ℕ) (place : Place) (old : CrewHost) (stands : StandsAt old 
         answered = AllZip-joined (λ (c : Child) (item : Item). IsPollOf c item.event) part.polled part.items child one.item part.answered one.polled;
         calls = calls-same (length part.items + 1) (length (part.items ++ one.item ∷ [])) old.host next.host (let n = length_push part.items one.item in omega (arith, n))
             (calls-then (length part.items) 1 old.host now.host next.host part.calls one.calls);
-        adds = adds-append part.items (one.item ∷ []) place.ledger [] [] (record { attempts = inl refl; others = inl refl }) true old.host now.host next.host part.adds part.disk (subst (λ ledger. Adds (one.item ∷ []) ledger [] true now.host next.host) (sym (append-nil place.ledger)) one.adds);
+        adds = adds-append part.items (one.item ∷ []) place.ledger [] [] (record { attempts = inl refl; others = inl refl }) true old.host now.host next.host part.adds part.disk one.adds;
         disk = one.disk ∙ part.disk;
         stands = subst (StandsPolling rest one.found next) here one.stands;
         ends = one.ends ∙ ap (λ (es : List EndItem). es ++ ends_in past (one.item ∷ [])) part.ends ∙ sym (ends_in-append place.past part.items (one.item ∷ []));

@@ -10,39 +10,20 @@ use Rattle.std.proofs.lemmas.List.Quantifiers.{all_pairs_push}
 use Rattle.std.proofs.lemmas.Bool.{eqb-true, eqb-false, eq-eqb, ne_eqb, not-true}
 use Rattle.fk_trace.specs.declared.change.OpenRecord.{OpenRecord}
 use Rattle.fk_trace.specs.declared.change.Change.{Change}
-use Rattle.fk_trace.specs.declared.change.Change.TheVariants.{Open as OpenChange, Done}
-use Rattle.fk_trace.specs.Ledger.{opens, dones, live, next_id, MayFollow, IsLedgerFrom, IsLedger}
-use Rattle.fk_trace.proofs.Lists.{Contains-head, Contains-tail, Contains-cases, Contains-filter, Contains-unmap, list_any-at, list_any-map, find-only}
-use Rattle.fk_trace.proofs.Ledgers.{opens-push_done, opens-push_open, dones-push_done, dones-push_open, live-push_open, none_at_bound, next_id-push_open}
-use Rattle.fk_run.proofs.Ledgers.{ledger-front, live-one}
+use Rattle.fk_trace.specs.declared.change.Change.TheVariants.{Open as OpenChange, Done, Settled, Floor}
+use Rattle.fk_trace.specs.Ledger.{opens, dones, live, numbers, next_id, MayFollow, IsLedgerFrom, IsLedger}
+use Rattle.fk_trace.proofs.Lists.{Contains-head, Contains-tail, Contains-cases, Contains-filter, Contains-unmap, All-by, list_any-at, list_any-map, find-only}
+use Rattle.fk_trace.proofs.Ledgers.{opens-append, opens-push_open, live-push_open, none_at_bound, open-number}
+use Rattle.fk_run.proofs.Ledgers.{ledger-front, live-one, open-below, settled-below}
 use Rattle.fk_cycle.specs.Stands.{Obligation, is_owed}
 use Rattle.fk_ledger.specs.Book.{live_ids}
 use Rattle.fk_ledger.specs.Payloads.{IsRecord, IsChange}
 use Rattle.fk_child.specs.Crew.{obligation_of, obligations_but}
 use Rattle.fk_child.proofs.Pieces.{pairs-before, filter-all}
 
--- each record of a ledger has a number below the next
-abbrev IsBelow : List Change → Type 0
-IsBelow ledger = All (λ (item : OpenRecord). item.id < next_id ledger) (opens ledger)
-
-below-push : (ledger : List Change) (change : Change) → IsBelow ledger → MayFollow ledger change → IsBelow (ledger ++ change ∷ [])
-below-push ledger (OpenChange item) below may =
-    subst (λ (items : List OpenRecord). All (λ (r : OpenRecord). r.id < length items + 1) items) (sym (opens-push_open ledger item))
-    (let more = length_push (opens ledger) item in
-    All-push (λ (r : OpenRecord). r.id < length (opens ledger ++ item ∷ []) + 1) (opens ledger) item
-    (All-weaker (λ (r : OpenRecord). r.id < length (opens ledger) + 1) (λ (r : OpenRecord). r.id < length (opens ledger ++ item ∷ []) + 1) (λ r l. omega arith) (opens ledger) below)
-    (let is = may.0 in omega arith))
-below-push ledger (Done id) below may = subst (λ (items : List OpenRecord). All (λ (r : OpenRecord). r.id < length items + 1) items) (sym (opens-push_done ledger id)) below
-
-below-from : (before changes : List Change) → IsBelow before → IsLedgerFrom before changes → IsBelow (before ++ changes)
-below-from before [] below is = subst IsBelow (sym (append-nil before)) below
-below-from before (change ∷ changes) below is =
-    subst IsBelow (append_assoc before (change ∷ []) changes) (below-from (before ++ change ∷ []) changes (below-push before change below is.0) is.1)
-
-pub live-below : (ledger : List Change) → IsLedger ledger → (item : OpenRecord) → Contains (live ledger) item → item.id < next_id ledger
-live-below ledger is item m =
-    All-contains (λ (r : OpenRecord). r.id < next_id ledger) (opens ledger) item (below-from [] ledger (All-nil (λ (r : OpenRecord). r.id < 1)) is)
-    (Contains-filter _ (opens ledger) item m)
+-- each live record has a number below the next
+pub live-below : (ledger : List Change) (item : OpenRecord) → Contains (live ledger) item → item.id < next_id ledger
+live-below ledger item m = open-below ledger item (Contains-filter _ (opens ledger) item m)
 
 -- a close that is owed is that of a live record
 pub owed-live : (unsettled : List ℕ) (ledger : List Change) (id : ℕ) → is_owed (obligations_but unsettled ledger) id ≡ true
@@ -55,44 +36,13 @@ owed-live unsettled ledger id owed =
     let passes : kept from.0 ≡ true = All-contains (λ (r : OpenRecord). kept r ≡ true) (filter kept (live ledger)) from.0 (filter_passes kept (live ledger)) from.1 in
     (from.0, Contains-filter kept (live ledger) from.0 from.1, same, subst (λ n. list_any (λ other. eqb other n) unsettled ≡ false) same (not-true (list_any (λ other. eqb other from.0.id) unsettled) passes))
 
--- each number that is settled is below the next
-abbrev AreBelow : List Change → Type 0
-AreBelow ledger = All (λ (id : ℕ). id < next_id ledger) (dones ledger)
-
-dones-push : (ledger : List Change) (change : Change) → IsBelow ledger → AreBelow ledger → MayFollow ledger change → AreBelow (ledger ++ change ∷ [])
-dones-push ledger (OpenChange item) below are may =
-    rw (dones-push_open ledger item, next_id-push_open ledger item)
-    (All-weaker (λ (id : ℕ). id < next_id ledger) (λ (id : ℕ). id < next_id ledger + 1) (λ id l. omega arith) (dones ledger) are)
-dones-push ledger (Done id) below are may =
-    let at = Contains-unmap (λ (item : OpenRecord). item.id) (live ledger) id may in
-    let low = All-contains (λ (r : OpenRecord). r.id < next_id ledger) (opens ledger) at.0 below (Contains-filter _ (opens ledger) at.0 at.1) in
-    rw (dones-push_done ledger id, opens-push_done ledger id)
-    (All-push (λ (n : ℕ). n < next_id ledger) (dones ledger) id are (subst (λ (n : ℕ). n < next_id ledger) at.2 low))
-
-dones-from : (before changes : List Change) → IsBelow before → AreBelow before → IsLedgerFrom before changes → AreBelow (before ++ changes)
-dones-from before [] below are is = subst AreBelow (sym (append-nil before)) are
-dones-from before (change ∷ changes) below are is =
-    subst AreBelow (append_assoc before (change ∷ []) changes)
-    (dones-from (before ++ change ∷ []) changes (below-push before change below is.0) (dones-push before change below are is.0) is.1)
-
--- the last change of a ledger may stand behind the others
-pub last-may : (before a : List Change) (change : Change) → IsLedgerFrom before (a ++ change ∷ []) → MayFollow (before ++ a) change
-last-may before [] change is = subst (λ (ledger : List Change). MayFollow ledger change) (sym (append-nil before)) is.0
-last-may before (first ∷ a) change is =
-    subst (λ (ledger : List Change). MayFollow ledger change) (append_assoc before (first ∷ []) a) (last-may (before ++ first ∷ []) a change is.1)
-
-module _ (ledger : List Change) (item : OpenRecord) (is : IsLedger (ledger ++ OpenChange item ∷ [])) where
-  pub was-ledger : IsLedger ledger
-  was-ledger = ledger-front [] ledger (OpenChange item ∷ []) is
-
-  pub numbered-next : item.id ≡ next_id ledger
-  numbered-next = (last-may [] ledger (OpenChange item) is).0
-
+module _ (ledger : List Change) (item : OpenRecord) (is : IsLedger (ledger ++ OpenChange item ∷ [])) (next : item.id ≡ next_id ledger) where
   -- the new record is the last of those that are live
   pub live-recorded : live (ledger ++ OpenChange item ∷ []) ≡ live ledger ++ item ∷ []
   live-recorded =
-      let are = dones-from [] ledger (All-nil (λ (r : OpenRecord). r.id < 1)) (All-nil (λ (id : ℕ). id < 1)) was-ledger in
-      live-push_open ledger item (subst (λ (n : ℕ). list_any (λ d. eqb d n) (dones ledger) ≡ false) (sym numbered-next) (none_at_bound (dones ledger) (next_id ledger) are))
+      let low = settled-below ledger (ledger-front [] ledger (OpenChange item ∷ []) is) in
+      let below : All (λ (id : ℕ). id < next_id ledger) (dones ledger) = All-by (λ (id : ℕ). id < next_id ledger) (dones ledger) low in
+      live-push_open ledger item (subst (λ (n : ℕ). list_any (λ d. eqb d n) (dones ledger) ≡ false) (sym next) (none_at_bound (dones ledger) (next_id ledger) below))
 
   pub owed-recorded : obligations_but [] (ledger ++ OpenChange item ∷ []) ≡ obligations_but [] ledger ++ obligation_of item ∷ []
   owed-recorded =
@@ -105,6 +55,8 @@ records-of : (ledger : List Change) → AllByRecursion IsChange ledger → All I
 records-of [] each = All-nil IsRecord
 records-of (OpenChange item ∷ ledger) each = All-cons IsRecord item (opens ledger) each.0 (records-of ledger each.1)
 records-of (Done id ∷ ledger) each = records-of ledger each.1
+records-of (Settled id stamp digest ∷ ledger) each = records-of ledger each.1
+records-of (Floor floor next ∷ ledger) each = records-of ledger each.1
 
 pub words-of : (ledger : List Change) → AllByRecursion IsChange ledger → (item : OpenRecord) → Contains (live ledger) item → 0 < length item.close
 words-of ledger each item m =
@@ -132,22 +84,25 @@ find-none p (y ∷ xs) e x m =
 abbrev AreRising : List OpenRecord → Type 0
 AreRising items = AllPairs (λ (a b : OpenRecord). a.id < b.id) items
 
-rising-push : (ledger : List Change) (change : Change) → IsBelow ledger → AreRising (opens ledger) → MayFollow ledger change → AreRising (opens (ledger ++ change ∷ []))
-rising-push ledger (OpenChange item) below rising may =
+rising-none : (ledger changes : List Change) → opens changes ≡ [] → AreRising (opens ledger) → AreRising (opens (ledger ++ changes))
+rising-none ledger changes none rising = subst AreRising (sym (opens-append ledger changes ∙ ap (λ items. opens ledger ++ items) none ∙ append-nil (opens ledger))) rising
+
+rising-push : (ledger : List Change) (change : Change) → AreRising (opens ledger) → MayFollow ledger change → AreRising (opens (ledger ++ change ∷ []))
+rising-push ledger (OpenChange item) rising may =
     subst AreRising (sym (opens-push_open ledger item))
     (all_pairs_push (λ (a b : OpenRecord). a.id < b.id) (opens ledger) item rising
-    (λ k d l. let low = below k d l in let is = may.0 in omega arith))
-rising-push ledger (Done id) below rising may = subst AreRising (sym (opens-push_done ledger id)) rising
+    (λ k d l. All-contains (λ (n : ℕ). n < item.id) (numbers ledger) (get_or (opens ledger) k d).id may.0.above (open-number ledger (get_or (opens ledger) k d) (Contains-get_or (opens ledger) k d l))))
+rising-push ledger (Done id) rising may = rising-none ledger (Done id ∷ []) refl rising
+rising-push ledger (Settled id stamp digest) rising may = rising-none ledger (Settled id stamp digest ∷ []) refl rising
+rising-push ledger (Floor floor next) rising may = rising-none ledger (Floor floor next ∷ []) refl rising
 
-rising-from : (before changes : List Change) → IsBelow before → AreRising (opens before) → IsLedgerFrom before changes → AreRising (opens (before ++ changes))
-rising-from before [] below rising is = subst (λ (ledger : List Change). AreRising (opens ledger)) (sym (append-nil before)) rising
-rising-from before (change ∷ changes) below rising is =
-    subst (λ (ledger : List Change). AreRising (opens ledger)) (append_assoc before (change ∷ []) changes)
-    (rising-from (before ++ change ∷ []) changes (below-push before change below is.0) (rising-push before change below rising is.0) is.1)
+rising-from : (before changes : List Change) → AreRising (opens before) → IsLedgerFrom before changes → AreRising (opens (before ++ changes))
+rising-from before [] rising is = subst (λ (ledger : List Change). AreRising (opens ledger)) (sym (append-nil before)) rising
+rising-from before (change ∷ changes) rising is =
+    subst (λ (ledger : List Change). AreRising (opens ledger)) (append_assoc before (change ∷ []) changes) (rising-from (before ++ change ∷ []) changes (rising-push before change rising is.0) is.1)
 
 pub live-rising : (ledger : List Change) → IsLedger ledger → AreRising (live ledger)
-live-rising ledger is =
-    AllPairs-filter (λ (a b : OpenRecord). a.id < b.id) _ (opens ledger) (rising-from [] ledger (All-nil (λ (r : OpenRecord). r.id < 1)) (λ i j d l m. absurd (omega arith)) is)
+live-rising ledger is = AllPairs-filter (λ (a b : OpenRecord). a.id < b.id) _ (opens ledger) (rising-from [] ledger (λ i j d l m. absurd (omega arith)) is)
 
 pub live-apart : (ledger : List Change) → IsLedger ledger → AllPairs (λ (a b : OpenRecord). a.id ≢ b.id) (live ledger)
 live-apart ledger is = λ i j d l m e. absurd (let low = live-rising ledger is i j d l m in omega arith)

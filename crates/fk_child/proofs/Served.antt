@@ -3,7 +3,7 @@ use Rattle.std.proofs.Common.{◌≡◌, ℕ, false, List, [], ◌∷◌, Bool, 
 use Rattle.fk_trace.specs.declared.change.OpenRecord.{OpenRecord}
 use Rattle.fk_trace.specs.declared.change.Change.{Change}
 use Rattle.fk_trace.specs.declared.change.Change.TheVariants.{Open as OpenChange, Done}
-use Rattle.fk_trace.specs.Ledger.{after}
+use Rattle.fk_trace.specs.Ledger.{next_id, after}
 use Rattle.fk_run.specs.Place.{Place, behind, changed, entry}
 use Rattle.fk_host.specs.Disk.{Above}
 use Rattle.fk_ledger.specs.Book.{Book}
@@ -50,11 +50,12 @@ tied-room crew crew' above place e tied = subst (λ (s : CrewState). IsTied s ab
 
 -- a record was made, and its open is to be attempted
 pub awaits-open : (crew crew' : CrewState) (old new : View) (place : Place) (book made : Book) (item : OpenRecord) (id due : ℕ)
-    → place.ledger ≡ book.changes → IsTied crew old.above place → crew' ≡ record crew { room = crew'.room } → id ≡ item.id → item.due ≡ due
+    → place.ledger ≡ book.changes → IsTied crew old.above place → crew' ≡ record crew { room = crew'.room } → id ≡ item.id → item.id ≡ next_id book.changes → item.due ≡ due
     → made.changes ≡ after book.changes (OpenChange item ∷ []) → KeepsLedger made.changes new.told new.images → new.above ≡ old.above
     → AwaitsOpen id due item place (with_host crew' new)
-awaits-open crew crew' old new place book made item id due e tied room numbered until changes keeps above = record {
+awaits-open crew crew' old new place book made item id due e tied room numbered next until changes keeps above = record {
   numbered = sym numbered;
+  next = next ∙ ap next_id (sym e);
   until = until;
   tied = subst (λ (a : Above). IsTied crew' a place) (sym above) (tied-room crew crew' old.above place room tied);
   keeps = subst (λ (l : List Change). KeepsLedger l new.told new.images) (changes ∙ ap (λ (l : List Change). after l (OpenChange item ∷ [])) (sym e)) keeps;

@@ -8,7 +8,7 @@ use Rattle.fk_trace.specs.declared.change.Change.{Change}
 use Rattle.fk_trace.specs.declared.change.Change.TheVariants.{Done}
 use Rattle.fk_trace.specs.Ledger.{after, live, next_id, IsLedger}
 use Rattle.fk_trace.proofs.Lists.{Contains-tail, filter-map, All-by}
-use Rattle.fk_trace.proofs.Ledgers.{filter-filter, live-push_done, opens-push_done}
+use Rattle.fk_trace.proofs.Ledgers.{filter-filter, live-push_done, opens-push_done, next_id-push}
 use Rattle.fk_run.specs.Place.{Place, changed}
 use Rattle.fk_run.proofs.Ledgers.{live-kept_done}
 use Rattle.fk_cycle.specs.Stands.{Obligation, Stands}
@@ -65,7 +65,7 @@ module _ (crew : CrewState) (above : Above) (place : Place) (tied : IsTied crew 
       let apart = subst (λ (ids : List ℕ). AllPairs (λ a b. a ≢ b) ids) (sym tied.owes) (ids-apart (live place.ledger) (live-apart place.ledger is)) in
       let left : crew'.owed ≡ live_ids (place.ledger ++ Done id ∷ []) =
       owes ∙ remove-distinct crew.owed index id apart at ∙ ap (filter (λ n. not (eqb id n))) tied.owes ∙ sym (ids-settled place.ledger id) in
-      let same_next : next_id (place.ledger ++ Done id ∷ []) ≡ next_id place.ledger = ap (λ (items : List OpenRecord). length items + 1) (opens-push_done place.ledger id) in
+      let same_next : next_id (place.ledger ++ Done id ∷ []) ≡ next_id place.ledger = next_id-push place.ledger (Done id) in
       record {
         owes = left;
         runs = holds ∙ tied.runs;

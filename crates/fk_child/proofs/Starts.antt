@@ -35,7 +35,7 @@ pub other-record : (unsettled : List ℕ) (ledger : List Change) (purpose : Purp
     → (id : ℕ) → next_id ledger ≤ id → is_of_record id purpose ≡ false
 other-record unsettled ledger purpose is owed id next =
     let at = owed-live unsettled ledger (record_of purpose) owed in
-    let low = live-below ledger is at.0 at.1 in
+    let low = live-below ledger at.0 at.1 in
     let same = at.2 in
     not-of purpose id (omega arith)
 

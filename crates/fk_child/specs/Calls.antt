@@ -11,7 +11,7 @@ use Rattle.fk_trace.specs.declared.change.Change.TheVariants.{Open as OpenChange
 use Rattle.fk_trace.specs.Trace.{Event, Item, Child, close_tried}
 use Rattle.fk_trace.specs.Trace.Event.{Turn, Began, Ended, PollFailed}
 use Rattle.fk_trace.specs.Idle.{child_numbered}
-use Rattle.fk_trace.specs.Ledger.{live, after}
+use Rattle.fk_trace.specs.Ledger.{live, next_id, after}
 use Rattle.fk_trace.specs.Settled.{settled_in}
 use Rattle.fk_trace.specs.Attempts.{PollsEachOnce, IsAttempt}
 use Rattle.fk_run.specs.Place.{Place, behind, changed}
@@ -113,10 +113,11 @@ Attempts purpose words (Err error) place old new = (moment : ℕ) → Goes 1 mom
 abbrev pub recorded : Place → OpenRecord → Place
 recorded place item = changed place (OpenChange item ∷ [])
 
--- The crew is tied to the place, and a record of this number and due was made there, which the disk keeps: its open is yet to be
--- attempted.
+-- The crew is tied to the place, and a record of this number, which is the next one there, and of this due was made, which the disk
+-- keeps: its open is yet to be attempted.
 pub record AwaitsOpen (id due : ℕ) (item : OpenRecord) (place : Place) (both : CrewHost) : Type 0 where
   pub numbered : item.id ≡ id
+  pub next : item.id ≡ next_id place.ledger
   pub until : item.due ≡ due
   pub tied : IsTied both.crew both.host.above place
   pub keeps : KeepsLedger (recorded place item).ledger both.host.told both.host.images
