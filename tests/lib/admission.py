@@ -180,7 +180,7 @@ class Trial:
         grant, why = self.decided(moment, source, datagram)
         if grant is not None:
             close = filled(grant.stanza.closing, grant)
-            size = 6 + 64 + sum(2 + len(it) for it in close)
+            size = 6 + 72 + sum(2 + len(it) for it in close)
             if len(self.live) < self.most and self.used + size + 14 * (len(self.live) + 1) <= self.room:
                 return self.opens(moment, grant, close, size, datagram)
             why = "full"

@@ -36,6 +36,7 @@ pair = record { proto = Tcp; port = 22; has_port = has_22 }
 abbrev permit : Permit
 permit = record {
   stanza = 1;
+  stamp = 1700000000;
   seconds = 30;
   ip = source;
   pair = pair;
@@ -48,7 +49,7 @@ rules = record {
   misshapen = λ datagram. None;
   digest = λ datagram. datagram;
   admit = λ moment from datagram. Granted permit;
-  has_room = λ ledger item. true;
+  room = record { limit = 10; fits = λ ledger change. true };
 }
 
 abbrev datagram : List ℕ
@@ -58,6 +59,7 @@ abbrev item : OpenRecord
 item = record {
   id = 1;
   digest = record { 0 = datagram };
+  stamp = 1700000000;
   moment = 1700000000;
   due = 1700000030;
   ip = source;

@@ -80,6 +80,7 @@ why_text why.Age = codes "age"
 why_text why.User = codes "user"
 why_text why.Source = codes "source"
 why_text why.Port = codes "port"
+why_text why.Stale = codes "stale"
 why_text why.Full = codes "full"
 
 abbrev pub open_verb : Bool → List ℕ

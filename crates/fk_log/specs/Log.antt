@@ -74,7 +74,7 @@ abbrev pub answer_lines : ℕ → Ip4 → RefusalLine → List Change → Answer
 answer_lines moment source refusal changes Nothing = []
 answer_lines moment source Told changes (Refuses why) = RefusedLine moment source why ∷ []
 answer_lines moment source Untold changes (Refuses why) = []
-answer_lines moment source refusal changes (Opens item permit) = map (λ made. GrantedLine moment source made.id permit.stanza made.due) (opens changes)
+answer_lines moment source refusal changes (Opens item permit made) = map (λ opened. GrantedLine moment source opened.id permit.stanza opened.due) (opens changes)
 
 abbrev pub input_lines : ℕ → Input → RefusalLine → List Change → Answer → List Line
 input_lines moment Quiet refusal changes given = []

@@ -285,6 +285,7 @@ fn why_text(why: LogWhy) -> &'static [u8]
         LogWhy::User => b"user",
         LogWhy::Source => b"source",
         LogWhy::Port => b"port",
+        LogWhy::Stale => b"stale",
         LogWhy::Full => b"full",
     }
 }

@@ -98,6 +98,7 @@ fn why(arguments: &mut Arguments<'_>) -> Result<LogWhy, RowFault> {
         b"User" => Ok(LogWhy::User),
         b"Source" => Ok(LogWhy::Source),
         b"Port" => Ok(LogWhy::Port),
+        b"Stale" => Ok(LogWhy::Stale),
         b"Full" => Ok(LogWhy::Full),
         _ => Err(RowFault::NoWord),
     }
@@ -159,6 +160,7 @@ fn put_listed<L: Lines>(
     let item = OpenRecord {
         id: arguments.number(u64::MAX)?,
         digest: Digest([0; 32]),
+        stamp: 0,
         moment: moment(arguments)?,
         due: arguments.number(u64::MAX)?,
         ip: address(arguments)?,

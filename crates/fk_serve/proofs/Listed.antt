@@ -4,7 +4,7 @@ use Rattle.std.specs.List.{filter, list_any}
 use Rattle.std.proofs.lemmas.List.{map-append, take_more}
 use Rattle.std.proofs.lemmas.List.Elements.{filter-append, filter_agree}
 use Rattle.fk_trace.specs.declared.change.Change.{Change}
-use Rattle.fk_trace.specs.declared.change.Change.TheVariants.{Open, Done}
+use Rattle.fk_trace.specs.declared.change.Change.TheVariants.{Open, Done, Settled, Floor}
 use Rattle.fk_trace.specs.declared.change.OpenRecord.{OpenRecord}
 use Rattle.fk_trace.specs.Ledger.{opens, dones, live}
 use Rattle.fk_trace.proofs.Ledgers.{opens-append}
@@ -27,6 +27,8 @@ any-done : (ledger : List Change) (id : ℕ) → list_any (settles id) ledger �
 any-done [] id = refl
 any-done (Open item ∷ ledger) id = any-done ledger id
 any-done (Done done ∷ ledger) id = ap (λ b. done == id || b) (any-done ledger id)
+any-done (Settled number stamp digest ∷ ledger) id = any-done ledger id
+any-done (Floor floor next ∷ ledger) id = any-done ledger id
 
 listed-append : (ledger : List Change) (a b : List OpenRecord) → map ListedLine (filter (is_live ledger) (a ++ b))
     ≡ map ListedLine (filter (is_live ledger) a) ++ map ListedLine (filter (is_live ledger) b)

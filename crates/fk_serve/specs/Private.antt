@@ -3,7 +3,7 @@ use Rattle.std.specs.Prelude.{◌≡◌, ℕ, ◌+◌, Bool, false, not, List, m
 use Rattle.std.specs.List.{filter, list_any}
 use Rattle.fk_base.specs.declared.status.Status.{Status}
 use Rattle.fk_trace.specs.declared.change.Change.{Change}
-use Rattle.fk_trace.specs.declared.change.Change.TheVariants.{Open, Done}
+use Rattle.fk_trace.specs.declared.change.Change.TheVariants.{Open, Done, Settled, Floor}
 use Rattle.fk_trace.specs.declared.change.OpenRecord.{OpenRecord}
 use Rattle.fk_trace.specs.Ledger.{opens}
 use Rattle.fk_host.specs.declared.disk.Disk.{Ghosts as DiskMeaning}
@@ -80,6 +80,8 @@ pub record TellsFiles (names : Names) (old new : Bench) (answer : Status) : Type
 abbrev pub settles : ℕ → Change → Bool
 settles id (Open item) = false
 settles id (Done done) = done == id
+settles id (Settled number stamp digest) = false
+settles id (Floor floor next) = false
 
 -- no change of the ledger closes the record for good
 abbrev pub is_live : List Change → OpenRecord → Bool

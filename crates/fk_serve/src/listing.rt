@@ -74,7 +74,7 @@ fn settles(change: &Change, id: u64) -> bool
     ensures { result ≡ settles id change.now }
 {
     match change {
-        Change::Open(_) => false,
         Change::Done(done) => *done == id,
+        Change::Open(_) | Change::Settled { .. } | Change::Floor { .. } => false,
     }
 }

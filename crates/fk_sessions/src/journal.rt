@@ -81,6 +81,8 @@ fn kind_of(word: &str) -> Result<u8, Fault>
     match word {
         "1" => Ok(1),
         "2" => Ok(2),
+        "3" => Ok(3),
+        "4" => Ok(4),
         _ => Err(Fault::NotUnderstood),
     }
 }

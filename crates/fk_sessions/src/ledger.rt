@@ -97,15 +97,26 @@ fn change_text(alloc: Global, change: &Change) -> Result<Bytes, NoMemory> {
     match change {
         Change::Open(item) => open_text(alloc, item),
         Change::Done(id) => Bytes::copy(alloc, format!(in alloc; "done {id}")?.as_bytes()),
+        Change::Settled { id, stamp, digest } => {
+            let letters = hex_text(alloc, &digest.0)?;
+            Bytes::copy(
+                alloc,
+                format!(in alloc; "settled {id} {letters} {stamp}")?.as_bytes(),
+            )
+        }
+        Change::Floor { floor, next } => {
+            Bytes::copy(alloc, format!(in alloc; "floor {floor} {next}")?.as_bytes())
+        }
     }
 }
 
 fn open_text(alloc: Global, item: &OpenRecord) -> Result<Bytes, NoMemory> {
     let id = item.id;
     let digest = hex_text(alloc, &item.digest.0)?;
+    let stamp = item.stamp;
     let moment = item.moment.get();
     let due = item.due;
-    let start = format!(in alloc; "open {id} {digest} {moment} {due} ")?;
+    let start = format!(in alloc; "open {id} {digest} {stamp} {moment} {due} ")?;
     let mut text = Bytes::copy(alloc, start.as_bytes())?;
     put_ip(item.ip, &mut text)?;
     text.append(b" ")?;
@@ -129,10 +140,11 @@ pub fn record_item(stage: &mut Stage, fields: &mut Fields<'_>) -> Result<Answer,
     Ok(answer)
 }
 
-/// A record as a line has it: its number, digest, moment, due, address and pair, and the words of its close.
+/// A record as a line has it: its number, digest, stamp, moment, due, address and pair, and the words of its close.
 fn item_of(stage: &Stage, fields: &mut Fields<'_>) -> Result<OpenRecord, Fault> {
     let id = fields.number()?;
     let digest = digest_of(&stage.names.hex(fields.word()?)?)?;
+    let stamp = fields.number()?;
     let moment = fields.moment()?;
     let due = fields.number()?;
     let ip = fields.address()?;
@@ -141,6 +153,7 @@ fn item_of(stage: &Stage, fields: &mut Fields<'_>) -> Result<OpenRecord, Fault> 
     Ok(OpenRecord {
         id,
         digest,
+        stamp,
         moment,
         due,
         ip,
