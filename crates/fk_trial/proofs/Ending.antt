@@ -2,7 +2,7 @@
 use Rattle.std.proofs.Common.{◌≡◌, ◌⊎◌, ℕ, ◌+◌, ◌&&◌, not, Bool, true, false, List, [], ◌∷◌, ◌++◌, length, refl, sym, ap, ◌∙◌, subst, inl, inr, arith}
 use Rattle.fk_base.specs.declared.status.Status.{Status}
 use Rattle.fk_base.specs.declared.status.Status.TheVariants as status
-use Rattle.fk_trace.specs.Ledger.{live}
+use Rattle.fk_trace.specs.Ledger.{after, live}
 use Rattle.fk_run.specs.Place.{entry}
 use Rattle.fk_run.specs.Turn.{TakenTurn}
 use Rattle.fk_run.specs.Run.{Run, Ending}
@@ -106,7 +106,7 @@ logged v t b c lines old new writes = record {
 same-end : (how : Stop) (session : Session) (old : LogState) (front lines : List Line) (turns : List TakenTurn) (policy : Policy)
     → MaySumUp how (SumsUp session old lines (run_of policy (ending_of how (length turns + 1)) turns)) → old.tally ≡ tallied blank_tally front
     → last_lines how session.turns (summary_by session)
-    ≡ ending_lines (ending_of how (length turns + 1)) (summary_of (front ++ lines) (length turns) (length (live (changes_in turns))))
+    ≡ ending_lines (ending_of how (length turns + 1)) (summary_of (front ++ lines) (length turns) (length (live (after [] (changes_in turns)))))
 same-end stop.End session old front lines turns policy sums first =
     let tally : session.log.tally ≡ tally_of (front ++ lines) = sums.tally ∙ ap (λ (t : Tally). tallied t lines) first ∙ tallied-append blank_tally front lines in
     ap (λ (n : ℕ). SummaryLine n session.log.tally (length (live session.daemon.book.changes)) ∷ []) sums.turns
@@ -224,7 +224,7 @@ module _ (task : TrialTask) (input input2 : SourceView) (sink sink1 sink2 sink3 
   all : Logs ((ready_line ++ lines) ++ last) out out3
   all = Logs-append (ready_line ++ lines) last out out2 out3 (Logs-append ready_line lines out out1 out2 start middle) close
 
-  last_is : last ≡ ending_lines ending (summary_of (ready_line ++ lines) (length turns) (length (live (changes_in turns))))
+  last_is : last ≡ ending_lines ending (summary_of (ready_line ++ lines) (length turns) (length (live (after [] (changes_in turns)))))
   last_is =
       same-end how session first.log ready_line lines turns task.policy stopped.sums (ap (λ (l : LogState). l.tally) begins.log_is ∙ ready.counted)
 

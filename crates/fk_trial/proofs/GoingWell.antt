@@ -127,9 +127,9 @@ module _ (law : Law) where
   opened-starts : (answer : Answer) (opened : List Item) → AttemptsThatOpen answer opened → AllByRecursion (λ item. IsStart item.event) opened
   opened-starts Nothing opened none = subst (λ (items : List Item). AllByRecursion (λ item. IsStart item.event) items) (sym none) tt
   opened-starts (Refuses why) opened none = subst (λ (items : List Item). AllByRecursion (λ item. IsStart item.event) items) (sym none) tt
-  opened-starts (Opens item permit) [] one = absurd one
-  opened-starts (Opens item permit) (start ∷ []) one = (attempt-start (Open item.id) permit.opening start.event one, tt)
-  opened-starts (Opens item permit) (start ∷ other ∷ more) one = absurd one
+  opened-starts (Opens item permit changes) [] one = absurd one
+  opened-starts (Opens item permit changes) (start ∷ []) one = (attempt-start (Open item.id) permit.opening start.event one, tt)
+  opened-starts (Opens item permit changes) (start ∷ other ∷ more) one = absurd one
 
   -- a whole turn
   turn-well : (rules : Rules) (place : Place) (taken : TakenTurn) (children : Children) → IsUnscripted children → WholeTurn rules place taken → AreAnswers children taken.items

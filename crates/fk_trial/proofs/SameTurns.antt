@@ -80,11 +80,11 @@ alike-closes (closing ∷ order) n (x ∷ xs) (y ∷ ys) a wa ca b wb cb =
 alike-opened : (given : Answer) (n : ℕ) (xs ys : List Item) → AttemptsThatOpen given xs → Well xs → AreCounted n xs → AttemptsThatOpen given ys → Well ys → AreCounted n ys → Alike xs ys
 alike-opened Nothing n xs ys a wa ca b wb cb = subst (λ (is : List Item). Alike is ys) (sym a) (subst (Alike []) (sym b) tt)
 alike-opened (Refuses why) n xs ys a wa ca b wb cb = subst (λ (is : List Item). Alike is ys) (sym a) (subst (Alike []) (sym b) tt)
-alike-opened (Opens item permit) n [] ys a wa ca b wb cb = absurd a
-alike-opened (Opens item permit) n (x ∷ other ∷ xs) ys a wa ca b wb cb = absurd a
-alike-opened (Opens item permit) n (x ∷ []) [] a wa ca b wb cb = absurd b
-alike-opened (Opens item permit) n (x ∷ []) (y ∷ other ∷ ys) a wa ca b wb cb = absurd b
-alike-opened (Opens item permit) n (x ∷ []) (y ∷ []) a wa ca b wb cb =
+alike-opened (Opens item permit changes) n [] ys a wa ca b wb cb = absurd a
+alike-opened (Opens item permit changes) n (x ∷ other ∷ xs) ys a wa ca b wb cb = absurd a
+alike-opened (Opens item permit changes) n (x ∷ []) [] a wa ca b wb cb = absurd b
+alike-opened (Opens item permit changes) n (x ∷ []) (y ∷ other ∷ ys) a wa ca b wb cb = absurd b
+alike-opened (Opens item permit changes) n (x ∷ []) (y ∷ []) a wa ca b wb cb =
     (attempt-event (Open item.id) permit.opening n x.event a wa.0 ca.0 ∙ sym (attempt-event (Open item.id) permit.opening n y.event b wb.0 cb.0), tt)
 
 -- the same records are due and idle at like places

@@ -4,7 +4,7 @@ use Rattle.std.specs.List.{AllByRecursion, flat_map}
 use Rattle.fk_base.specs.declared.status.Status.{Status}
 use Rattle.fk_trace.specs.Trace.{Item}
 use Rattle.fk_trace.specs.Decision.{FeedTurn}
-use Rattle.fk_trace.specs.Ledger.{live}
+use Rattle.fk_trace.specs.Ledger.{after, live}
 use Rattle.fk_run.specs.Place.{Place, entry}
 use Rattle.fk_run.specs.Turn.{TakenTurn, WholeTurn, after_turn, after_turns}
 use Rattle.fk_run.specs.Run.{Run, Ending}
@@ -136,7 +136,7 @@ run_of policy ending turns = record { rules = rules_by policy; ledger = []; faul
 -- the session can say the end of this run
 pub record SumsUp (session : Session) (old : LogState) (lines : List Line) (run : Run) : Type 0 where
   pub turns : session.turns ≡ length run.turns
-  pub owed : length (live session.daemon.book.changes) ≡ length (live (flat_map (λ taken. taken.changes) run.turns))
+  pub owed : length (live session.daemon.book.changes) ≡ length (live (after [] (flat_map (λ taken. taken.changes) run.turns)))
   pub tally : session.log.tally ≡ tallied old.tally lines
   pub pages : HoldsPages session
 
