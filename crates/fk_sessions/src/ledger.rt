@@ -16,6 +16,9 @@ use fk_ledger::{Ledger, LedgerErr, Owed, RecordFault, are_command_words};
 use fk_trace::{Change, OpenRecord};
 use std::alloc::Global;
 
+/// The greatest stamp that a record may have.
+const GREATEST_STAMP: u64 = 1_000_031_535_999;
+
 /// What the opening of a ledger has found.
 #[derive(Clone, Copy, PartialEq, Eq)]
 pub enum Found {
@@ -203,7 +206,12 @@ fn record_on<D: Disk>(
     requires owed { owed.old.items ≡ live_ids ledger.old.changes }
     ensures { owed.new.items ≡ live_ids ledger.new.changes }
 {
-    if !are_command_words(&item.close) || item.id != ledger.next_id() || ledger.seen(&item.digest) {
+    if !are_command_words(&item.close)
+        || item.id != ledger.next_id()
+        || ledger.seen(&item.digest)
+        || item.stamp < ledger.floor()
+        || item.stamp > GREATEST_STAMP
+    {
         return Err(Fault::OutOfPlace);
     }
     owed.reserve(1)?;
