@@ -5,13 +5,18 @@ use crate::system_moment;
 use crate::waiting::{TRIES, pause};
 use fk_base::{Failed, Ip4};
 use fk_host::{DATAGRAM_ROOM, Feed, Input, Turn};
+use libc::net::{SO_RCVBUF, SOL_SOCKET, setsockopt};
 use std::io::ErrorKind;
 use std::net::{Ipv4Addr, Net, SocketAddr, UdpSocket};
+use std::os::fd::AsRawFd;
 use std::time::{Clock, Duration};
 use std::{io, thread};
 
 /// How long a call for a turn waits for a datagram, in seconds.
 const WAIT: u64 = 1;
+
+/// How much room is asked for the datagrams that wait to be taken, in bytes.
+const ROOM: i32 = i32::MAX;
 
 /// Linux's number of a want of room for what is sent or received.
 const NO_BUFFERS: i32 = 105;
@@ -79,7 +84,15 @@ impl<R: Net + Clock + Drop> Feed for UdpFeed<R> {
 fn listen<R: Net + Clock>(rt: &R, port: u16) -> io::Result<UdpSocket> {
     let socket = bind(rt, port)?;
     socket.set_read_timeout(Some(Duration::from_secs(WAIT)))?;
+    ask_for_room(&socket);
     Ok(socket)
+}
+
+/// Asks for as much room as there may be for datagrams that wait. The system gives what it allows; with less of it the socket serves.
+fn ask_for_room(socket: &UdpSocket) {
+    let mut value = [0; 16];
+    value[..4].copy_from_slice(&ROOM.to_ne_bytes());
+    let _given = unsafe { setsockopt(socket.as_raw_fd(), SOL_SOCKET, SO_RCVBUF, &value, 4) };
 }
 
 /// Waits a little for the port, which a daemon that was just killed may have left to a child that it began to start.
