@@ -22,14 +22,11 @@ SOURCES := crates.txt HANDLES $(shell find crates -name out -prune -o -type f \(
 
 all: $(PROGRAMS:%=bin/%) ## proves and builds the programs, and leaves them in bin/
 
-# `rt run` proves the crate and all below it, builds the program and runs it, here with its stored words on an empty input. The
-# client's stored words name a file that lies elsewhere, so it prints its version.
-WORDS_fwknop = --version
-
+# `rt run` proves the crate and all below it, builds the program and runs it: those that are installed print their version.
 bin/%: $(SOURCES)
 	@mkdir -p bin
 	@echo "proving and building $* (some minutes where nothing was built; what rt says goes to bin/$*.log)" >&2
-	@cd crates/$* && rt run -- $(or $(WORDS_$*),$$(cat args)) </dev/null >../../bin/$*.log 2>&1 || { tail -n 40 ../../bin/$*.log >&2; exit 1; }
+	@cd crates/$* && rt run -- $(if $(filter $*,$(PROGRAMS)),--version,$$(cat args)) </dev/null >../../bin/$*.log 2>&1 || { tail -n 40 ../../bin/$*.log >&2; exit 1; }
 	@cp crates/$*/out/$* bin/$*.new
 	@mv bin/$*.new bin/$*
 

@@ -260,3 +260,13 @@ int getaddrinfo(const char *restrict name, const char *restrict service, const s
     if (meant(LOOKUP, name ? last_part(name) : "none")) { errno = EIO; return -fault_error; }
     return REAL(getaddrinfo)(name, service, hints, found);
 }
+void *__libc_malloc(size_t size);
+void *__libc_realloc(void *old, size_t size);
+void *malloc(size_t size) {
+    if (meant(MALLOC, "memory")) { errno = ENOMEM; return 0; }
+    return __libc_malloc(size);
+}
+void *realloc(void *old, size_t size) {
+    if (meant(MALLOC, "memory")) { errno = ENOMEM; return 0; }
+    return __libc_realloc(old, size);
+}
