@@ -42,6 +42,8 @@ class Daemon:
 
     def __init__(self, program, folder, access, door="#!/bin/sh\necho \"$# $*\" >>{doors}\n"):
         self.program, self.folder, self.port, self.runs, self.process = program, folder, free_port(), 0, None
+        # how many of its starts found its port or its journal still taken
+        self.refused = 0
         os.makedirs(folder)
         self.write("conf", f"UDPSERV_PORT {self.port}\n")
         self.write("access", access.replace("DOOR", self.path("door")))
@@ -83,6 +85,7 @@ class Daemon:
         while self.runs and time.monotonic() < end:
             if self.begin_once(words) not in (["disk failed"], ["feed failed"]):
                 return self.expect_ready()
+            self.refused += 1
             time.sleep(0.05)
         self.begin_once(words)
         self.expect_ready()

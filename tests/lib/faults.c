@@ -38,6 +38,8 @@ enum { OPEN, READ, PREAD, WRITE, PWRITE, FSYNC, FDATASYNC, FTRUNCATE, FCHMOD, ST
 static int active, trace = -1, fault_kind = -1, fault_error, fault_half, fault_short, fault_on;
 static long fault_number, counts[COUNT], speed = 1;
 static long long start;
+/* the C library itself breaks where memory is wanting in the midst of a look-up */
+static int looks_up;
 
 /* Calls go to the system themselves: some come before symbols can be looked up. */
 #define REAL(name) ({ static __typeof__(&name) it; if (!it) it = (__typeof__(&name))dlsym(RTLD_NEXT, #name); it; })
@@ -197,7 +199,8 @@ int socket(int domain, int type, int protocol) {
 }
 int bind(int fd, const struct sockaddr *address, socklen_t size) { FAILS(BIND, fd) return SYSTEM(bind, fd, address, size); }
 int setsockopt(int fd, int level, int name, const void *value, socklen_t size) {
-    if (active && meant(SETSOCKOPT, name == SO_RCVTIMEO ? "timeout" : name == SO_RCVBUF ? "room" : "other")) { errno = fault_error; return -1; }
+    const char *target = name == SO_RCVTIMEO ? "timeout" : name == SO_RCVBUF && *(const int *)value >= 1 << 30 ? "room" : "other";
+    if (active && meant(SETSOCKOPT, target)) { errno = fault_error; return -1; }
     if (active && level == SOL_SOCKET && name == SO_RCVTIMEO && size >= sizeof(struct timeval)) {
         struct timeval wait = *(const struct timeval *)value;
         long micros = (wait.tv_sec * 1000000 + wait.tv_usec) / speed;
@@ -258,15 +261,18 @@ int close(int fd) {
 }
 int getaddrinfo(const char *restrict name, const char *restrict service, const struct addrinfo *restrict hints, struct addrinfo **restrict found) {
     if (meant(LOOKUP, name ? last_part(name) : "none")) { errno = EIO; return -fault_error; }
-    return REAL(getaddrinfo)(name, service, hints, found);
+    looks_up = 1;
+    int status = REAL(getaddrinfo)(name, service, hints, found);
+    looks_up = 0;
+    return status;
 }
 void *__libc_malloc(size_t size);
 void *__libc_realloc(void *old, size_t size);
 void *malloc(size_t size) {
-    if (meant(MALLOC, "memory")) { errno = ENOMEM; return 0; }
+    if (!looks_up && meant(MALLOC, "memory")) { errno = ENOMEM; return 0; }
     return __libc_malloc(size);
 }
 void *realloc(void *old, size_t size) {
-    if (meant(MALLOC, "memory")) { errno = ENOMEM; return 0; }
+    if (!looks_up && meant(MALLOC, "memory")) { errno = ENOMEM; return 0; }
     return __libc_realloc(old, size);
 }
