@@ -137,7 +137,7 @@ impl AreaFiles {
         if !self.is_locked {
             self.take_lock(rt)?;
         }
-        // the locked file has to have its name still, whichever area is written
+        // the locked file has to have its name still, whichever area is written; whoever had the lock may have put another one there
         self.make_writable(rt, LOCKED)?;
         self.make_writable(rt, area)?;
         match self.opened(area) {
@@ -150,8 +150,6 @@ impl AreaFiles {
         self.make_writable(rt, LOCKED)?;
         if let Some(opened) = self.opened(LOCKED) {
             wait_for_lock(rt, &opened.file)?;
-            // whoever had it may have put another file there meanwhile
-            check_name(rt, LOCKED, &opened.file)?;
         }
         // a run before this one may have made files and ended before it synced the folder
         sync_folder(rt)?;
