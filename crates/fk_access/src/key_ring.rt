@@ -1,6 +1,6 @@
 ghost use Rattle.std.specs.Prelude.{◌≡◌, ◌<◌, ◌≤◌, length, slice_get, Some};
 
-use fk_base::Keys;
+use fk_mac::PreparedKeys;
 use std::marker::Model;
 
 /// The most pairs of keys of a stanza.
@@ -9,7 +9,7 @@ pub const RING_LIMIT: usize = 4;
 /// A pair of keys, and how long it is used.
 #[derive(Drop)]
 pub struct TimedKeys {
-    pub keys: Keys,
+    pub keys: PreparedKeys,
     /// The last moment at which it lets anybody in, in seconds since the start of 1970; without one it has no end.
     pub until: Option<u64>,
 }

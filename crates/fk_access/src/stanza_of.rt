@@ -23,6 +23,7 @@ use crate::stanza_lacks::{has_last_pair, lacks_first};
 use crate::{AccessErr, KeyRing, PairList, Sources, Stanza, TimedKeys};
 use fk_base::{Bytes, GREATEST_MOMENT, HashKind, Keys, LONGEST_TIME, NoMemory};
 use fk_lines::Line;
+use fk_mac::PreparedKeys;
 use fk_subst::{CommandFault, Template, split};
 use fk_values::{Given, KEY_LIMIT, read_flag, read_hash_name, read_number, take_key_of};
 use std::alloc::Global;
@@ -93,7 +94,7 @@ fn timed_of(alloc: Global, lines: PairLines<'_>) -> Result<TimedKeys, NoMemory>
     requires { HasKeys (pair_given lines) }
     ensures { IfOk result (λ timed. IsTimedAt (pair_given lines.entry) timed) }
 {
-    let keys = keys_of(alloc, lines)?;
+    let keys = PreparedKeys::new(keys_of(alloc, lines)?);
     let until = moment_of(lines.until);
     Ok(TimedKeys { keys, until })
 }

@@ -15,7 +15,6 @@ use Rattle.fk_packet.specs.Opens.{blocks_under, fields_opened, is_authentic, ope
 use Rattle.fk_packet.specs.Pick.{fits, plain_under}
 use Rattle.fk_admit.specs.declared.opening.Opening.{Opening}
 use Rattle.fk_admit.specs.declared.opening.Opening.TheVariants as opening
-use Rattle.fk_admit.specs.declared.refusal.Refusal.{Refusal}
 use Rattle.fk_admit.specs.declared.refusal.Refusal.TheVariants.{Mac, Cipher, Plain}
 use Rattle.fk_admit.specs.KeyConditions.{fields_under, is_plaintext, is_right_but_for_type, is_served_type}
 use Rattle.fk_admit.specs.Private.{IsOpening, fault_opening, plain_opening}

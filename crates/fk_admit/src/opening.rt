@@ -4,9 +4,10 @@ ghost use Rattle.fk_packet.specs.Shape.{shape_fault};
 ghost use Rattle.fk_admit.specs.Private.{IsOpening, fault_opening, plain_opening};
 
 use crate::Refusal;
-use fk_base::{Keys, Steps};
+use fk_base::Steps;
 use fk_codec::DecodeFault;
 use fk_fields::Fields;
+use fk_mac::PreparedKeys;
 use fk_packet::{PacketFault, open_under};
 use std::alloc::Global;
 use std::sync::ledger::Ledger;
@@ -29,7 +30,7 @@ pub(crate) enum Opening {
 pub(crate) fn try_keys<L: Ledger>(
     alloc: Global,
     datagram: &[u8],
-    keys: &Keys,
+    keys: &PreparedKeys,
     steps: &mut Steps<L>,
 ) -> Opening
     requires { shape_fault datagram.now ≡ None }

@@ -1,7 +1,8 @@
 //! The five hashes and HMAC (RFC 2104) over them, as bytes and as unpadded base64.
 //!
 //! A MAC's message is given in two pieces, so that nobody has to copy them together. Only the calls that give a text take
-//! memory. A key that is used again and again is prepared once, as a `MacKey`; none is made or kept here.
+//! memory. A key that is used again and again is prepared once, as a `MacKey`, and a pair of keys as `PreparedKeys`; none is made
+//! here.
 //!
 //! Start at `MacKey`; what a hash and an HMAC are stands in `specs/Hmac.antt`.
 #![tactic(auto)]
@@ -11,8 +12,10 @@ mod hashes;
 mod hmac;
 mod mac_buf;
 mod mac_key;
+mod prepared_keys;
 
 pub use hashes::{hash, hash_text, packet_digest};
 pub use hmac::{codes_have_len, mac, mac_text, verify};
 pub use mac_buf::MacBuf;
 pub use mac_key::MacKey;
+pub use prepared_keys::PreparedKeys;

@@ -287,14 +287,14 @@ the_memory r why y is same e = let both : Err y ≡ Err fault.NoMemory = sym is 
 
 -- the HMAC
 
-pub tested : (keys : Keys) (datagram key letters code : List ℕ) (right : Bool) → key ≡ keys.mac_key
+pub tested : (keys : Keys) (datagram letters code : List ℕ) (right : Bool)
     → letters ≡ take (length datagram - text_len keys.kind) datagram → code ≡ drop (length datagram - text_len keys.kind) datagram
-    → IsTrue right ↔ (code ≡ mac_text keys.kind key (prefix ++ letters)) → is_authentic keys datagram ≡ right
+    → IsTrue right ↔ (code ≡ mac_text keys.kind keys.mac_key (prefix ++ letters)) → is_authentic keys datagram ≡ right
 unfolding is_authentic
-tested keys datagram key letters code right key_is front end verified =
+tested keys datagram letters code right front end verified =
     let n = length datagram - text_len keys.kind in
-    let text : mac_text keys.kind key (prefix ++ letters) ≡ mac_text keys.kind keys.mac_key (sealed_text keys.kind datagram) =
-    ap (λ (k : List ℕ). mac_text keys.kind k (prefix ++ letters)) key_is ∙ ap (λ (l : List ℕ). mac_text keys.kind keys.mac_key (prefix ++ l)) front in
+    let text : mac_text keys.kind keys.mac_key (prefix ++ letters) ≡ mac_text keys.kind keys.mac_key (sealed_text keys.kind datagram) =
+    ap (λ (l : List ℕ). mac_text keys.kind keys.mac_key (prefix ++ l)) front in
     let decides = bytes_eq-Decides (drop n datagram) (mac_text keys.kind keys.mac_key (sealed_text keys.kind datagram)) in
     elim (cases_Bool right) [
       | inl holds ↦ decides.1 (sym end ∙ verified.0 holds ∙ text) ∙ sym holds

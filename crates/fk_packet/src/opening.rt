@@ -8,11 +8,11 @@ ghost use Rattle.fk_packet.specs.Shape.{prefix, shape_fault};
 use crate::PacketFault;
 use crate::packet_shape::{PREFIX, shape};
 use crate::sealed::take_sealed;
-use fk_base::{Bytes, HashKind, Keys, Steps};
+use fk_base::{Bytes, Steps};
 use fk_cbc::open;
 use fk_codec::decode;
 use fk_fields::Fields;
-use fk_mac::verify;
+use fk_mac::PreparedKeys;
 use std::alloc::Global;
 use std::sync::ledger::Ledger;
 
@@ -21,7 +21,7 @@ use std::sync::ledger::Ledger;
 pub fn unpack<L: Ledger>(
     alloc: Global,
     datagram: &[u8],
-    keys: &Keys,
+    keys: &PreparedKeys,
     steps: &mut Steps<L>,
 ) -> Result<Fields, PacketFault>
     ensures packed { IfOk result (λ fields. Packs keys.now fields datagram.now) }
@@ -47,7 +47,7 @@ pub fn unpack<L: Ledger>(
 pub fn open_under<L: Ledger>(
     alloc: Global,
     datagram: &[u8],
-    keys: &Keys,
+    keys: &PreparedKeys,
     steps: &mut Steps<L>,
 ) -> Result<Fields, PacketFault>
     requires { shape_fault datagram.now ≡ None }
@@ -61,21 +61,21 @@ pub fn open_under<L: Ledger>(
     ensures memory_steps { result ≡ Err PacketFault.NoMemory
         → (steps.new ≡ steps.old) ⊎ ((steps.new ≡ steps.old + blocks_under keys.now datagram.now) × IsOk (opened_under keys.now datagram.now)) }
 {
-    let (letters, mac) = split_mac(datagram, keys.kind);
-    if !verify(keys.kind, keys.mac_key.as_slice(), PREFIX, letters, mac) {
+    let (letters, mac) = split_mac(datagram, keys);
+    if !keys.verify(PREFIX, letters, mac) {
         return Err(PacketFault::Mac);
     }
-    let plain = open_letters(alloc, keys.key.as_slice(), letters, steps)?;
+    let plain = open_letters(alloc, keys.keys().key.as_slice(), letters, steps)?;
     Ok(decode(alloc, plain.as_slice())?)
 }
 
 /// The letters of the sealed bytes, and those of the HMAC behind them.
-fn split_mac(datagram: &[u8], kind: HashKind) -> (&[u8], &[u8])
-    requires { text_len kind ≤ length datagram.now }
-    ensures letters { result.0.now ≡ take (length datagram.now - text_len kind) datagram.now }
-    ensures mac { result.1.now ≡ drop (length datagram.now - text_len kind) datagram.now }
+fn split_mac<'a>(datagram: &'a [u8], keys: &PreparedKeys) -> (&'a [u8], &'a [u8])
+    requires { text_len keys.now.kind ≤ length datagram.now }
+    ensures letters { result.0.now ≡ take (length datagram.now - text_len keys.now.kind) datagram.now }
+    ensures mac { result.1.now ≡ drop (length datagram.now - text_len keys.now.kind) datagram.now }
 {
-    datagram.split_at(datagram.len() - kind.text_len())
+    datagram.split_at(datagram.len() - keys.keys().kind.text_len())
 }
 
 /// The plaintext that a key opens from the prefix and the letters behind it.

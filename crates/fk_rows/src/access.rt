@@ -106,11 +106,12 @@ fn put_secrets(stanza: &Stanza, answer: &mut Answer) -> Result<(), NoMemory> {
 
 /// Adds a pair of keys, and where it has one its last moment.
 fn put_timed_keys(timed: &TimedKeys, answer: &mut Answer) -> Result<(), NoMemory> {
+    let keys = timed.keys.keys();
     answer.word(b"key")?;
-    answer.text(timed.keys.key.as_slice())?;
+    answer.text(keys.key.as_slice())?;
     answer.word(b"hmac")?;
-    answer.name(&timed.keys.kind)?;
-    answer.text(timed.keys.mac_key.as_slice())?;
+    answer.name(&keys.kind)?;
+    answer.text(keys.mac_key.as_slice())?;
     if let Some(until) = timed.until {
         answer.word(b"until")?;
         answer.number(until)?;

@@ -4,8 +4,9 @@ ghost use Rattle.fk_packet.specs.Shape.{shape_fault};
 
 use crate::packet_fields::{fields, put_fields};
 use crate::reading::{bytes, keys};
-use fk_base::{Keys, Steps};
+use fk_base::Steps;
 use fk_fields::Fields;
+use fk_mac::PreparedKeys;
 use fk_packet::{PacketFault, open_under, pack, shape, unpack};
 use fk_row_text::{Answer, Arguments, RowFault};
 use std::alloc::Global;
@@ -25,14 +26,14 @@ pub(crate) fn call(
             Err(fault) => answer.name(&fault)?,
         },
         b"unpack" => {
-            let keys = keys(alloc, arguments)?;
+            let keys = PreparedKeys::new(keys(alloc, arguments)?);
             put_opened(
                 unpacked::<Brand>(alloc, arguments.text()?, &keys, Blank::new(1)),
                 answer,
             )?;
         }
         b"open_under" => {
-            let keys = keys(alloc, arguments)?;
+            let keys = PreparedKeys::new(keys(alloc, arguments)?);
             let datagram = arguments.text()?;
             if shape(datagram).is_err() {
                 return Err(RowFault::Barred);
@@ -75,7 +76,7 @@ fn put_opened(opened: Result<Fields, PacketFault>, answer: &mut Answer) -> Resul
 fn unpacked<L: Ledger>(
     alloc: Global,
     datagram: &[u8],
-    keys: &Keys,
+    keys: &PreparedKeys,
     blank: Blank,
 ) -> Result<Fields, PacketFault>
     requires name { blank.name ≡ L.name }
@@ -89,7 +90,7 @@ fn unpacked<L: Ledger>(
 fn opened_under<L: Ledger>(
     alloc: Global,
     datagram: &[u8],
-    keys: &Keys,
+    keys: &PreparedKeys,
     blank: Blank,
 ) -> Result<Fields, PacketFault>
     requires shape { shape_fault datagram.now ≡ None }

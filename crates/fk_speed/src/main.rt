@@ -13,6 +13,7 @@ mod repeat;
 
 use closes::closes_attempted;
 use fk_base::{Bytes, Keys, Moment, NoMemory, read_decimal};
+use fk_mac::PreparedKeys;
 use fk_packet::PacketFault;
 use packets::{DATAGRAM, last_opened, last_packed, other_keys, right_keys};
 use repeat::{decrypted, encrypted, last_digest, last_keyed_mac, last_mac, last_md5};
@@ -60,9 +61,9 @@ fn last_result(alloc: Global, name: &str, count: u64) -> Result<Option<String>, 
         "keyed" => Ok(Some(hex::encode(alloc, last_keyed_mac(count).as_slice())?)),
         "sha256" => Ok(Some(hex::encode(alloc, &last_digest(count))?)),
         "md5" => Ok(Some(hex::encode(alloc, &last_md5(count))?)),
-        "open" => opened(alloc, &right_keys(alloc)?, count),
-        "refuse" => opened(alloc, &other_keys(alloc)?, count),
-        "pack" => packed(alloc, &right_keys(alloc)?, count),
+        "open" => opened(alloc, right_keys(alloc)?, count),
+        "refuse" => opened(alloc, other_keys(alloc)?, count),
+        "pack" => packed(alloc, right_keys(alloc)?, count),
         "turn" => attempted(alloc, 0, count, 1000),
         "turn-idle" => attempted(alloc, 4096, count, 999),
         "turn-256" => attempted(alloc, 256, count, 1000),
@@ -72,10 +73,11 @@ fn last_result(alloc: Global, name: &str, count: u64) -> Result<Option<String>, 
 }
 
 /// The random value of the packet that was opened; no bytes where its HMAC was refused.
-fn opened(alloc: Global, keys: &Keys, count: u64) -> Result<Option<String>, NoMemory> {
+fn opened(alloc: Global, keys: Keys, count: u64) -> Result<Option<String>, NoMemory> {
     // A copy, since a compiler tests a constant's letters before the program runs.
     let datagram = Bytes::copy(alloc, DATAGRAM)?;
-    match last_opened::<Brand>(alloc, Blank::new(1), datagram.as_slice(), keys, count) {
+    let keys = PreparedKeys::new(keys);
+    match last_opened::<Brand>(alloc, Blank::new(1), datagram.as_slice(), &keys, count) {
         Ok(fields) => Ok(Some(hex::encode(alloc, &fields.rand.digits())?)),
         Err(PacketFault::Mac) => Ok(Some(hex::encode(alloc, &[])?)),
         Err(PacketFault::NoMemory) => Err(NoMemory),
@@ -84,10 +86,11 @@ fn opened(alloc: Global, keys: &Keys, count: u64) -> Result<Option<String>, NoMe
 }
 
 /// The datagram of the same fields.
-fn packed(alloc: Global, keys: &Keys, count: u64) -> Result<Option<String>, NoMemory> {
-    match last_opened::<Brand>(alloc, Blank::new(1), DATAGRAM, keys, 0) {
+fn packed(alloc: Global, keys: Keys, count: u64) -> Result<Option<String>, NoMemory> {
+    let keys = PreparedKeys::new(keys);
+    match last_opened::<Brand>(alloc, Blank::new(1), DATAGRAM, &keys, 0) {
         Ok(fields) if fields.check().is_ok() => {
-            let datagram = last_packed(alloc, &fields, keys, count)?;
+            let datagram = last_packed(alloc, &fields, keys.keys(), count)?;
             Ok(Some(hex::encode(alloc, datagram.as_slice())?))
         }
         Err(PacketFault::NoMemory) => Err(NoMemory),

@@ -5,6 +5,7 @@ ghost use Rattle.fk_packet.specs.Packs.{Packs};
 
 use fk_base::{Bytes, HashKind, Keys, NoMemory, Steps};
 use fk_fields::Fields;
+use fk_mac::PreparedKeys;
 use fk_packet::{PacketFault, pack, unpack};
 use std::alloc::Global;
 use std::sync::ledger::{Blank, Ledger};
@@ -39,7 +40,7 @@ pub fn last_opened<L: Ledger>(
     alloc: Global,
     blank: Blank,
     datagram: &[u8],
-    keys: &Keys,
+    keys: &PreparedKeys,
     count: u64,
 ) -> Result<Fields, PacketFault>
     requires name { blank.name ≡ L.name }

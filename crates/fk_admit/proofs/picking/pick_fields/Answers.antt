@@ -1,5 +1,4 @@
-use Rattle.std.proofs.Common.{◌≡◌, ◌+◌, ◌≤◌, Some, length, sym, ap, ◌∙◌, arith}
-use Rattle.std.specs.Option.{option_or}
+use Rattle.std.proofs.Common.{◌+◌, ◌≤◌, Some, length, sym, ap, ◌∙◌, arith}
 use Rattle.fk_admit.specs.Private.{arrival_of}
 use Rattle.fk_admit.proofs.PickedPairs.{blocks_next, blocks_same, blocks_within, fields_are_picked, other_type, picking_ends, picking_fails, picking_goes_on, picking_passes}
 use Rattle.fk_admit.proofs.picking.pick_fields.Goals.{in-Failed, in-OtherHmac}
