@@ -29,7 +29,7 @@ front_written f out a b c d e ae be ce de ee =
     (joined out f.rand (text_of f.user) (decimal f.stamp) f.version
     (join_with_byte 58 (type_text f.ask ∷ text_of (message_text (asked_ip f.ask) (asked_pairs f.ask)) ∷ timeout_parts f.ask)))
 
-pub whole_written : (f : Fields) (none front seen digest part text : List ℕ) → none ≡ [] → front ≡ none ++ front_of f → seen ≡ front
-    → digest ≡ text_of (hash_of f.kind seen) → part ≡ digest → text ≡ front ++ 58 ∷ part → text ≡ spelled f
+pub whole_written : (f : Fields) (none front text : List ℕ) → none ≡ [] → front ≡ none ++ front_of f
+    → text ≡ front ++ 58 ∷ text_of (hash_of f.kind front) → text ≡ spelled f
 unfolding spelled
-whole_written f none front seen digest part text n w s d p t = rw (t, p, d, s, w, n) refl
+whole_written f none front text n w t = rw (t, w, n) refl

@@ -1,13 +1,16 @@
-ghost use Rattle.std.specs.Prelude.{◌≡◌, ◌∷◌, ◌++◌, IfOk, None, OnOk};
+ghost use Rattle.std.specs.Prelude.{◌≡◌, ◌≤◌, ◌∷◌, ◌++◌, IfOk, None, OnOk, length};
 ghost use Rattle.std.specs.Fmt.{decimal};
-ghost use Rattle.fk_fields.specs.Fields.{field_fault};
+ghost use Rattle.fk_base.specs.Pairs.{IsPairs};
+ghost use Rattle.fk_text.specs.Text.{text_of};
+ghost use Rattle.fk_mac.specs.Hmac.{hash_of};
+ghost use Rattle.fk_fields.specs.Fields.{IsFields, asked_pairs, field_fault};
 ghost use Rattle.fk_codec.specs.Private.{ask_text, request_text};
 ghost use Rattle.fk_codec.specs.Spells.{Spells, front_of};
 
-use fk_base::{Bytes, Ip4, NoMemory, Pairs, put_decimal};
+use fk_base::{Bytes, HashKind, Ip4, NoMemory, Pairs, put_decimal};
 use fk_fields::{Ask, Fields, put_message};
-use fk_mac::hash_text;
-use fk_text::put_text;
+use fk_mac::{MacBuf, hash};
+use fk_text::put_into;
 use std::alloc::Global;
 
 /// The length of the longest plaintext.
@@ -21,18 +24,27 @@ pub fn encode(alloc: Global, fields: &Fields) -> Result<Bytes, NoMemory>
     fields.keep_rules();
     let mut text = Bytes::with_room(alloc, LONGEST_PLAINTEXT)?;
     put_front(alloc, fields, &mut text)?;
-    let digest = hash_text(alloc, fields.kind, text.as_slice())?;
-    put_part(digest.as_slice(), &mut text)?;
+    put_digest(fields.kind, &mut text)?;
     Ok(text)
+}
+
+/// Appends the digest of what stands there, behind a `:`.
+fn put_digest(kind: HashKind, out: &mut Bytes) -> Result<(), NoMemory>
+    ensures { OnOk result (out.new ≡ out.old ++ 58 ∷ text_of (hash_of kind out.old)) }
+{
+    let mut digest = MacBuf::new();
+    hash(kind, out.as_slice(), &mut digest);
+    out.append(b":")?;
+    digest.put_text(out)
 }
 
 /// Appends all that stands before the digest.
 fn put_front(alloc: Global, fields: &Fields, out: &mut Bytes) -> Result<(), NoMemory>
+    requires { IsFields fields.now }
     ensures { OnOk result (out.new ≡ out.old ++ front_of fields.now) }
 {
     out.append(&fields.rand.digits())?;
-    let user = put_text(alloc, fields.user.as_slice())?;
-    put_part(user.as_slice(), out)?;
+    put_text(fields.user.as_slice(), out)?;
     put_number(fields.stamp, out)?;
     put_part(fields.version.as_slice(), out)?;
     put_ask(alloc, &fields.ask, out)
@@ -40,6 +52,7 @@ fn put_front(alloc: Global, fields: &Fields, out: &mut Bytes) -> Result<(), NoMe
 
 /// Appends the type, the message and the seconds of a timed request, each behind a `:`.
 fn put_ask(alloc: Global, ask: &Ask, out: &mut Bytes) -> Result<(), NoMemory>
+    requires { IsPairs (asked_pairs ask.now) }
     ensures { OnOk result (out.new ≡ out.old ++ ask_text ask.now) }
 {
     match ask {
@@ -59,12 +72,22 @@ fn put_request(
     pairs: &Pairs,
     out: &mut Bytes,
 ) -> Result<(), NoMemory>
+    requires { IsPairs pairs.now }
     ensures { OnOk result (out.new ≡ out.old ++ request_text request_type.now ip pairs.now) }
 {
     put_part(request_type, out)?;
     let message = put_message(alloc, ip, pairs)?;
-    let text = put_text(alloc, message.as_slice())?;
-    put_part(text.as_slice(), out)
+    put_text(message.as_slice(), out)
+}
+
+/// Appends the text of bytes, behind a `:`.
+fn put_text(bytes: &[u8], out: &mut Bytes) -> Result<(), NoMemory>
+    requires { length bytes.now ≤ 192 }
+    ensures { OnOk result (out.new ≡ out.old ++ 58 ∷ text_of bytes.now) }
+{
+    let mut letters = [0; 256];
+    let len = put_into(bytes, &mut letters);
+    put_part(&letters[..len], out)
 }
 
 fn put_number(value: u64, out: &mut Bytes) -> Result<(), NoMemory>

@@ -1,33 +1,16 @@
-ghost use Rattle.std.specs.Prelude.{◌≡◌, ◌↔◌, ◌++◌, ℕ, List, length, IfOk, IsTrue};
+ghost use Rattle.std.specs.Prelude.{◌≡◌, ◌↔◌, ◌++◌, ℕ, List, length, IsTrue};
 ghost use Rattle.fk_base.specs.HashKind.{hash_len, text_len};
 ghost use Rattle.fk_text.specs.Text.{text_of};
 ghost use Rattle.fk_mac.specs.Hmac.{hash_of, hmac, mac_text};
 
 use crate::{MacBuf, MacKey};
-use fk_base::{Bytes, HashKind, NoMemory};
-use fk_text::put_text;
-use std::alloc::Global;
+use fk_base::HashKind;
 
 /// Leaves the HMAC of `head` and then `tail` in `out`.
 pub fn mac(kind: HashKind, key: &[u8], head: &[u8], tail: &[u8], out: &mut MacBuf)
     ensures { out.new ≡ hmac kind key.now (head.now ++ tail.now) }
 {
     MacKey::new(kind, key).mac(head, tail, out);
-}
-
-/// The HMAC of `head` and then `tail` as unpadded base64.
-pub fn mac_text(
-    alloc: Global,
-    kind: HashKind,
-    key: &[u8],
-    head: &[u8],
-    tail: &[u8],
-) -> Result<Bytes, NoMemory>
-    ensures { IfOk result (λ text. text ≡ mac_text kind key.now (head.now ++ tail.now)) }
-{
-    let mut out = MacBuf::new();
-    mac(kind, key, head, tail, &mut out);
-    put_text(alloc, out.as_slice())
 }
 
 /// Whether `text` is the HMAC of `head` and then `tail` as unpadded base64.

@@ -1,5 +1,8 @@
-ghost use Rattle.std.specs.Prelude.{◌≡◌, ◌≤◌, [], length};
+ghost use Rattle.std.specs.Prelude.{◌≡◌, ◌≤◌, [], ◌++◌, length, OnErr, OnOk};
+ghost use Rattle.fk_text.specs.Text.{text_of};
 
+use fk_base::{Bytes, NoMemory};
+use fk_text::put_into;
 use std::marker::Model;
 
 /// A hash or a MAC: up to 64 bytes, the length of a SHA-512.
@@ -34,6 +37,16 @@ impl MacBuf {
         ensures short { length result.now ≤ 64 }
     {
         &self.bytes[..self.len]
+    }
+
+    /// Appends these bytes as unpadded base64.
+    pub fn put_text(&self, out: &mut Bytes) -> Result<(), NoMemory>
+        ensures ok { OnOk result (out.new ≡ out.old ++ text_of self.now) }
+        ensures err { OnErr result (out.new ≡ out.old) }
+    {
+        let mut letters = [0; 86];
+        let len = put_into(self.as_slice(), &mut letters);
+        out.append(&letters[..len])
     }
 
     pub(crate) fn copy_from(&mut self, bytes: &[u8])

@@ -18,7 +18,7 @@ use Rattle.fk_text.specs.Found.{bytes_in, is_letter}
 use Rattle.fk_text.specs.Text.{text_of}
 use Rattle.fk_text.proofs.BytesFound.{bytes_in_iff}
 use Rattle.fk_text.proofs.Symbols.{length-text_of}
-use Rattle.fk_mac.specs.Hmac.{mac_text}
+use Rattle.fk_mac.specs.Hmac.{hmac, mac_text}
 use Rattle.fk_cbc.specs.declared.open_fault.OpenFault.{OpenFault}
 use Rattle.fk_cbc.specs.declared.open_fault.OpenFault.TheVariants as open_fault
 use Rattle.fk_cbc.specs.OpenFault.{FirstOpenFault, HasBadLength, HasMark}
@@ -39,6 +39,7 @@ use Rattle.fk_packet.specs.Opens.{blocks_in, blocks_under, fields_opened, is_aut
 use Rattle.fk_packet.specs.Packs.{Packs, datagram_of}
 use Rattle.fk_packet.specs.Private.{decode_refusal, open_refusal}
 use Rattle.fk_packet.specs.Shape.{prefix, shape_fault}
+use Rattle.fk_codec.proofs.Lengths.{length-plaintext}
 use Rattle.fk_packet.proofs.Law.{length-kind, length-packed, opened_packed, opened_packs, plain_found, shape_packed}
 
 -- the shape
@@ -461,6 +462,15 @@ text_long n sealed seen text u s t v size =
     let whole : length u ≡ (8 * length sealed + 5) / 6 = ap length (v ∙ t ∙ ap text_of s) ∙ length-text_of sealed in
     omega arith
 
+-- sealed bytes have a text for which there is room
+pub text_short : (f : Fields) (plain seen sealed read : List ℕ) → Spells f plain → seen ≡ plain → length sealed ≡ 32 + length seen / 16 * 16 → read ≡ sealed
+    → length read ≤ 1132
+text_short f plain seen sealed read spells s size r =
+    let most = (length-plaintext f plain spells).1 in
+    let same : length seen ≡ length plain = ap length s in
+    let sealed_is : length read ≡ length sealed = ap length r in
+    omega arith
+
 pub packs_made : (keys : Keys) (f : Fields) (key salt plain seen sealed read text u d : List ℕ) → Spells f plain → key ≡ keys.key → seen ≡ plain
     → Seals key salt seen sealed → read ≡ sealed → text ≡ text_of read → u ≡ text → d ≡ datagram_of keys u → (packs : Packs keys f d) × (packs.salt ≡ salt)
 packs_made keys f key salt plain seen sealed read text u d spells key_is plain_is seals read_is text_is u_is d_is = (
@@ -482,6 +492,6 @@ packs_len keys f d packs =
     let most = size.1 in
     (omega arith, omega arith)
 
-pub datagram_made : (keys : Keys) (key text rest mac seen none front datagram : List ℕ) → key ≡ keys.mac_key → rest ≡ drop 10 text
-    → mac ≡ mac_text keys.kind key text → seen ≡ mac → none ≡ [] → front ≡ none ++ rest → datagram ≡ front ++ seen → datagram ≡ datagram_of keys text
-datagram_made keys key text rest mac seen none front datagram k r m s n f d = rw (d, f, n, s, m, k, r) refl
+pub datagram_made : (keys : Keys) (key text rest code none front datagram : List ℕ) → key ≡ keys.mac_key → rest ≡ drop 10 text
+    → code ≡ hmac keys.kind key text → none ≡ [] → front ≡ none ++ rest → datagram ≡ front ++ text_of code → datagram ≡ datagram_of keys text
+datagram_made keys key text rest code none front datagram k r m n f d = rw (d, f, n, m, k, r) refl

@@ -3,12 +3,12 @@ ghost use Rattle.fk_fields.specs.Fields.{field_fault};
 ghost use Rattle.fk_packet.specs.Packs.{Packs, datagram_of};
 
 use crate::packet_shape::PREFIX;
+use crate::sealed::WholeText;
 use fk_base::{Bytes, Keys, NoMemory};
 use fk_cbc::seal;
 use fk_codec::encode;
 use fk_fields::Fields;
-use fk_mac::mac_text;
-use fk_text::put_text;
+use fk_mac::{MacBuf, mac};
 use std::alloc::Global;
 
 /// The datagram of checked fields under the keys and with the salt.
@@ -20,7 +20,7 @@ pub fn pack(alloc: Global, fields: &Fields, keys: &Keys, salt: [u8; 8]) -> Resul
 {
     let plain = encode(alloc, fields)?;
     let sealed = seal(alloc, keys.key.as_slice(), salt, plain.as_slice())?;
-    let text = put_text(alloc, sealed.as_slice())?;
+    let text = WholeText::of(sealed.as_slice());
     datagram_of(alloc, keys, text.as_slice())
 }
 
@@ -29,11 +29,12 @@ fn datagram_of(alloc: Global, keys: &Keys, text: &[u8]) -> Result<Bytes, NoMemor
     requires { 10 ≤ length text.now }
     ensures { IfOk result (λ datagram. datagram ≡ datagram_of keys.now text.now) }
 {
-    let mac = mac_text(alloc, keys.kind, keys.mac_key.as_slice(), &[], text)?;
+    let mut code = MacBuf::new();
+    mac(keys.kind, keys.mac_key.as_slice(), &[], text, &mut code);
     let rest = behind_prefix(text);
-    let mut datagram = Bytes::with_room(alloc, rest.len() + mac.as_slice().len())?;
+    let mut datagram = Bytes::with_room(alloc, rest.len() + keys.kind.text_len())?;
     datagram.append(rest)?;
-    datagram.append(mac.as_slice())?;
+    code.put_text(&mut datagram)?;
     Ok(datagram)
 }
 

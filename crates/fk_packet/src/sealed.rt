@@ -1,9 +1,10 @@
 ghost use Rattle.std.specs.Prelude.{◌≡◌, ◌+◌, ◌≤◌, [], ◌++◌, length, MatchOption, None, Some};
 ghost use Rattle.fk_text.specs.Found.{bytes_in};
+ghost use Rattle.fk_text.specs.Text.{text_of};
 ghost use Rattle.fk_packet.specs.Shape.{prefix};
 
 use crate::packet_shape::PREFIX;
-use fk_text::take_into;
+use fk_text::{put_into, take_into};
 use std::marker::Model;
 
 /// The length of the longest datagram with the ten letters that are left out of it.
@@ -49,7 +50,7 @@ pub(crate) fn take_sealed(letters: &[u8]) -> Option<Sealed>
 
 /// A text of at most 1510 letters that takes no memory.
 #[derive(Drop)]
-struct WholeText {
+pub(crate) struct WholeText {
     room: [u8; 1510],
     len: usize,
 }
@@ -65,6 +66,16 @@ impl Model for WholeText {
 }
 
 impl WholeText {
+    /// The text of sealed bytes.
+    pub(crate) fn of(sealed: &[u8]) -> Self
+        requires { length sealed.now ≤ 1132 }
+        ensures { result ≡ text_of sealed.now }
+    {
+        let mut room = [0; 1510];
+        let len = put_into(sealed, &mut room);
+        WholeText { room, len }
+    }
+
     fn new() -> Self
         ensures { result ≡ [] }
     {
@@ -74,7 +85,7 @@ impl WholeText {
         }
     }
 
-    fn as_slice(&self) -> &[u8]
+    pub(crate) fn as_slice(&self) -> &[u8]
         ensures { result.now ≡ self.now }
     {
         &self.room[..self.len]

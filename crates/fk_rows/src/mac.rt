@@ -1,6 +1,7 @@
 //! The calls of fk_mac: hashes and HMAC.
 use crate::reading::kind;
-use fk_mac::{MacBuf, hash, hash_text, mac, mac_text, packet_digest, verify};
+use fk_base::{Bytes, NoMemory};
+use fk_mac::{MacBuf, hash, mac, packet_digest, verify};
 use fk_row_text::{Answer, Arguments, RowFault};
 use std::alloc::Global;
 
@@ -12,18 +13,11 @@ pub(crate) fn call(
     answer: &mut Answer,
 ) -> Result<bool, RowFault> {
     match name {
-        b"hash" => call_hash(arguments, answer)?,
-        b"hash_text" => {
-            let kind = kind(arguments)?;
-            answer.text(hash_text(alloc, kind, arguments.text()?)?.as_slice())?;
-        }
+        b"hash" => answer.text(hashed(arguments)?.as_slice())?,
+        b"hash_text" => put_text(alloc, &hashed(arguments)?, answer)?,
         b"packet_digest" => answer.text(&packet_digest(arguments.text()?).0)?,
-        b"mac" => call_mac(arguments, answer)?,
-        b"mac_text" => {
-            let (kind, key) = (kind(arguments)?, arguments.text()?);
-            let (head, tail) = (arguments.text()?, arguments.text()?);
-            answer.text(mac_text(alloc, kind, key, head, tail)?.as_slice())?;
-        }
+        b"mac" => answer.text(authenticated(arguments)?.as_slice())?,
+        b"mac_text" => put_text(alloc, &authenticated(arguments)?, answer)?,
         b"verify" => {
             let (kind, key) = (kind(arguments)?, arguments.text()?);
             let (head, tail) = (arguments.text()?, arguments.text()?);
@@ -34,19 +28,23 @@ pub(crate) fn call(
     Ok(true)
 }
 
-fn call_hash(arguments: &mut Arguments<'_>, answer: &mut Answer) -> Result<(), RowFault> {
+fn hashed(arguments: &mut Arguments<'_>) -> Result<MacBuf, RowFault> {
     let mut out = MacBuf::new();
     let kind = kind(arguments)?;
     hash(kind, arguments.text()?, &mut out);
-    answer.text(out.as_slice())?;
-    Ok(())
+    Ok(out)
 }
 
-fn call_mac(arguments: &mut Arguments<'_>, answer: &mut Answer) -> Result<(), RowFault> {
+fn authenticated(arguments: &mut Arguments<'_>) -> Result<MacBuf, RowFault> {
     let mut out = MacBuf::new();
     let (kind, key) = (kind(arguments)?, arguments.text()?);
     let (head, tail) = (arguments.text()?, arguments.text()?);
     mac(kind, key, head, tail, &mut out);
-    answer.text(out.as_slice())?;
-    Ok(())
+    Ok(out)
+}
+
+fn put_text(alloc: Global, code: &MacBuf, answer: &mut Answer) -> Result<(), NoMemory> {
+    let mut text = Bytes::new(alloc);
+    code.put_text(&mut text)?;
+    answer.text(text.as_slice())
 }

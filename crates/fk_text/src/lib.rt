@@ -13,6 +13,6 @@ mod text;
 mod text_fault;
 
 pub use letter::first_bad_byte;
-pub use short::{ShortBytes, take_into, take_short};
+pub use short::{ShortBytes, put_into, take_into, take_short};
 pub use text::{is_text_of, put_text, take_text, text_has_len, text_of_one_list, texts_are_found};
 pub use text_fault::TextFault;

@@ -1,5 +1,6 @@
 ghost use Rattle.std.specs.Prelude.{◌≡◌, ◌+◌, ◌*◌, ◌/◌, ◌≤◌, length, take, MatchOption, None, Some};
 ghost use Rattle.fk_text.specs.Found.{bytes_in};
+ghost use Rattle.fk_text.specs.Text.{text_of};
 ghost use Rattle.fk_base.specs.Bytes.{IsBytes};
 
 use base64::engine::general_purpose::STANDARD_NO_PAD;
@@ -52,6 +53,17 @@ pub fn take_into(text: &[u8], room: &mut [u8]) -> Option<usize>
             Some(len)
         }
         Err(_) => None,
+    }
+}
+
+/// Leaves the text of `bytes` at the front of `room`, and answers how many letters it has. It takes no memory.
+pub fn put_into(bytes: &[u8], room: &mut [u8]) -> usize
+    requires { (8 * length bytes.now + 5) / 6 ≤ length room.old }
+    ensures { (result ≤ length room.new) × (take result room.new ≡ text_of bytes.now) }
+{
+    match STANDARD_NO_PAD.encode_slice(bytes, room) {
+        Ok(len) => len,
+        Err(_) => unreachable!(),
     }
 }
 

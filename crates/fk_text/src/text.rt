@@ -5,8 +5,8 @@ ghost use Rattle.fk_text.specs.Private.{IsText};
 ghost use Rattle.fk_text.specs.Text.{text_of};
 ghost use Rattle.fk_text.specs.TextFault.{FirstTextFault};
 
-use crate::TextFault;
 use crate::letter::{first_bad_byte, has_loose_bits};
+use crate::{TextFault, put_into};
 use base64::DecodeAllocError;
 use base64::engine::general_purpose::STANDARD_NO_PAD;
 use fk_base::{Bytes, NoMemory};
@@ -40,10 +40,8 @@ pub fn is_text_of(text: &[u8], bytes: &[u8]) -> bool
     ensures { IsTrue result ↔ (text.now ≡ text_of bytes.now) }
 {
     let mut letters = [0; 86];
-    match STANDARD_NO_PAD.encode_slice(bytes, &mut letters) {
-        Ok(len) => are_equal(text, &letters[..len]),
-        Err(_) => unreachable!(),
-    }
+    let len = put_into(bytes, &mut letters);
+    are_equal(text, &letters[..len])
 }
 
 /// A text has a letter for each six bits begun.

@@ -1,12 +1,17 @@
 use Rattle.std.proofs.Common.{◌≡◌, ◌≤◌, length}
 use Rattle.std.proofs.lemmas.Result.{IfOk-weaker}
 use Rattle.fk_packet.specs.Packs.{Packs, datagram_of}
-use Rattle.fk_packet.proofs.Answered.{packs_len, packs_made, text_long}
+use Rattle.fk_packet.proofs.Answered.{packs_len, packs_made, text_long, text_short}
 use Rattle.fk_packet.proofs.packing.pack.Goals as goal
+
+pub of-text-requires : goal.of-text-requires
+of-text-requires c =
+    text_short c.args.fields.now c.in_ok-plain.plain c.as_slice-2.result.now c.in_ok-sealed.sealed c.as_slice-3.result.now c.in_ok-plain.ensures
+    c.as_slice-2.ensures c.in_ok-sealed.ensures.len c.as_slice-3.ensures
 
 pub datagram_of-requires : goal.datagram_of-requires
 datagram_of-requires c =
-    text_long _ c.in_ok-sealed.sealed c.as_slice-3.result.now c.in_ok-text.text c.as_slice-4.result.now c.as_slice-3.ensures c.in_ok-text.ensures
+    text_long _ c.in_ok-sealed.sealed c.as_slice-3.result.now c.of-text.result c.as_slice-4.result.now c.as_slice-3.ensures c.of-text.ensures
     c.as_slice-4.ensures c.in_ok-sealed.ensures.len
 
 pub returns-clause-packed : goal.returns-clause-packed
@@ -14,8 +19,8 @@ returns-clause-packed c =
     IfOk-weaker c.datagram_of.result (λ d. d ≡ datagram_of c.args.keys.now c.as_slice-4.result.now)
     (λ d. (packs : Packs c.args.keys.now c.args.fields.now d) × (packs.salt ≡ c.args.salt))
     (λ d e. packs_made c.args.keys.now c.args.fields.now c.as_slice.result.now c.args.salt c.in_ok-plain.plain c.as_slice-2.result.now
-    c.in_ok-sealed.sealed c.as_slice-3.result.now c.in_ok-text.text c.as_slice-4.result.now d c.in_ok-plain.ensures c.as_slice.ensures c.as_slice-2.ensures
-    c.in_ok-sealed.ensures.sealed c.as_slice-3.ensures c.in_ok-text.ensures c.as_slice-4.ensures e)
+    c.in_ok-sealed.sealed c.as_slice-3.result.now c.of-text.result c.as_slice-4.result.now d c.in_ok-plain.ensures c.as_slice.ensures c.as_slice-2.ensures
+    c.in_ok-sealed.ensures.sealed c.as_slice-3.ensures c.of-text.ensures c.as_slice-4.ensures e)
     c.datagram_of.ensures
 
 pub returns-clause-least : goal.returns-clause-least
