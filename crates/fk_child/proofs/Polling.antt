@@ -11,7 +11,6 @@ use Rattle.fk_trace.specs.Settled.{settled_in}
 use Rattle.fk_trace.proofs.Settled.{past_after-append, settled_in-append}
 use Rattle.fk_run.specs.Place.{Place, behind}
 use Rattle.fk_child.specs.declared.items.EndItem.{EndItem}
-use Rattle.fk_child.specs.View.{Adds}
 use Rattle.fk_child.specs.Crew.{CrewState, CrewHost, StandsAt}
 use Rattle.fk_child.specs.Calls.{PollsAll, ends_in, end_item, polled_number}
 use Rattle.fk_child.specs.Private.{with_children, StandsPolling, PollsNext, MayPoll, PartlyPolled}

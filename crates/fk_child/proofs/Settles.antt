@@ -1,5 +1,5 @@
 -- How a record is settled.
-use Rattle.std.proofs.Common.{◌≡◌, ◌≢◌, ℕ, ◌+◌, zero, suc, Bool, true, false, not, ◌||◌, eqb, List, [], ◌∷◌, ◌++◌, length, map, get_or, Some, refl, sym, ap, ◌∙◌, subst, arith}
+use Rattle.std.proofs.Common.{◌≡◌, ◌≢◌, ℕ, zero, suc, Bool, true, false, not, ◌||◌, eqb, List, [], ◌∷◌, ◌++◌, map, get_or, Some, refl, sym, ap, ◌∙◌, subst, arith}
 use Rattle.std.specs.Prelude.{slice_get}
 use Rattle.std.specs.List.{All, AllPairs, Contains, filter, list_any, remove}
 use Rattle.std.proofs.lemmas.List.Elements.{All-contains, All-head, All-map}
@@ -8,7 +8,7 @@ use Rattle.fk_trace.specs.declared.change.Change.{Change}
 use Rattle.fk_trace.specs.declared.change.Change.TheVariants.{Done}
 use Rattle.fk_trace.specs.Ledger.{after, live, next_id, IsLedger}
 use Rattle.fk_trace.proofs.Lists.{Contains-tail, filter-map, All-by}
-use Rattle.fk_trace.proofs.Ledgers.{filter-filter, live-push_done, opens-push_done, next_id-push}
+use Rattle.fk_trace.proofs.Ledgers.{filter-filter, live-push_done, next_id-push}
 use Rattle.fk_run.specs.Place.{Place, changed}
 use Rattle.fk_run.proofs.Ledgers.{live-kept_done}
 use Rattle.fk_cycle.specs.Stands.{Obligation, Stands}

@@ -1,5 +1,5 @@
 -- The moments of an opening, and what is damaged.
-use Rattle.std.proofs.Common.{◌≡◌, ℕ, Bool, true, false, List, [], ◌++◌, sym, ap, subst, inl, inr, append-nil, Option, Some, None, Err}
+use Rattle.std.proofs.Common.{◌≡◌, ℕ, Bool, true, false, List, sym, ap, subst, inl, inr, Option, Some, None, Err}
 use Rattle.std.specs.Prelude.{Result}
 use Rattle.fk_trace.specs.declared.change.Change.{Change}
 use Rattle.fk_host.specs.Disk.{Areas, Told, IfTold}
@@ -9,7 +9,7 @@ use Rattle.fk_journal.specs.Keeps.{Log, Keeps, selected, IsOpening}
 use Rattle.fk_journal.proofs.Told.{if_told_map}
 use Rattle.fk_journal.proofs.Uniqueness.{one_list, same_held}
 use Rattle.fk_ledger.specs.Payloads.{ledger_contents}
-use Rattle.fk_ledger.specs.Holds.{HoldsLedger, HoldsState, IsLedgerDamagedAt}
+use Rattle.fk_ledger.specs.Holds.{HoldsLedger, IsLedgerDamagedAt}
 use Rattle.fk_ledger.specs.Stretch.{IsLedgerOpening}
 use Rattle.fk_ledger.specs.Private.{BreakAt}
 use Rattle.fk_ledger.proofs.StretchLaws.{held_state}

@@ -7,7 +7,7 @@ use Rattle.fk_trace.specs.declared.change.Change.{Change}
 use Rattle.std.specs.Prelude.{IfSome}
 use Rattle.std.specs.List.{AllByRecursion}
 use Rattle.std.proofs.lemmas.List.{map-append}
-use Rattle.fk_trace.specs.Ledger.{after_one, after, MayFollow, IsLedger, IsLedgerFrom}
+use Rattle.fk_trace.specs.Ledger.{after, MayFollow, IsLedger, IsLedgerFrom}
 use Rattle.fk_trace.proofs.Ledgers.{IsNoFloor, after_one-behind, after-append}
 use Rattle.fk_host.specs.Disk.{Areas, Told, IfTold, LeavesAreas}
 use Rattle.fk_journal.proofs.Told.{past_then, if_told_map, if_told_then}

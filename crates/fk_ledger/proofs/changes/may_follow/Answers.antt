@@ -1,4 +1,3 @@
-use Rattle.std.proofs.Common.{◌∙◌}
 use Rattle.fk_ledger.proofs.ChangeLists.{may_done}
 use Rattle.fk_ledger.proofs.changes.may_follow.Goals as goal
 

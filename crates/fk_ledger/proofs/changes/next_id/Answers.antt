@@ -1,4 +1,3 @@
-use Rattle.std.proofs.Common.{sym}
 use Rattle.fk_ledger.proofs.RoomLaws.{next_fits}
 use Rattle.fk_ledger.proofs.changes.next_id.Goals as goal
 

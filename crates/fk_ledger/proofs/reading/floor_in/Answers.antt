@@ -1,4 +1,4 @@
-use Rattle.std.proofs.Common.{◌≡◌, List, [], ℕ, length, ap, arith, rules, inl, inr}
+use Rattle.std.proofs.Common.{◌≡◌, List, [], ℕ, ap, arith, rules, inl, inr}
 use Rattle.std.proofs.lemmas.List.{nil_from_length}
 use Rattle.fk_journal.specs.Entries.{Content}
 use Rattle.fk_ledger.proofs.RecordReads.{floor_found, floor_same, floor_unread}
