@@ -30,6 +30,7 @@ pub fn admit<L: Ledger>(
         (λ grant. admitted access.now (arrival age src datagram.now moment) ≡ Ok grant)
         (IsAdmitFault access.now (arrival age src datagram.now moment)) }
     ensures stanza { IfOk result (λ grant. (1 ≤ grant.stanza) × (grant.stanza ≤ length access.now)) }
+    ensures stamp { IfOk result (λ grant. (grant.stamp ≤ moment + age) × (moment ≤ grant.stamp + age)) }
     ensures shape_steps { IsSome (shape_fault datagram.now) → steps.new ≡ steps.old }
     ensures least_steps { steps.old ≤ steps.new }
     ensures most_steps { steps.new ≤ steps.old + blocks_in_all access.now (arrival age src datagram.now moment) }
@@ -58,6 +59,7 @@ fn try_stanzas<L: Ledger>(
         (λ grant. admitted access.now (arrival_of arriving.entry) ≡ Ok grant)
         (IsAdmitFault access.now (arrival_of arriving.entry)) }
     ensures stanza { IfOk result (λ grant. (1 ≤ grant.stanza) × (grant.stanza ≤ length access.now)) }
+    ensures stamp { IfOk result (λ grant. (grant.stamp ≤ arriving.entry.moment + arriving.entry.age) × (arriving.entry.moment ≤ grant.stamp + arriving.entry.age)) }
     ensures least_steps { steps.old ≤ steps.new }
     ensures most_steps { steps.new ≤ steps.old + blocks_in_all access.now (arrival_of arriving.entry) }
 {

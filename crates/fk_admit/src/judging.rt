@@ -28,6 +28,7 @@ pub(crate) fn judge<L: Ledger>(
     ensures passed { IfOk result (λ _. first_failed (served_tests stanza.now (arrival_of arriving.entry)) ≡ None) }
     ensures grant { IfOk result (λ grant. option_map (grant_of number stanza.now (arrival_of arriving.entry)) (fields_by stanza.now (arrival_of arriving.entry)) ≡ Some grant) }
     ensures number { IfOk result (λ grant. grant.stanza ≡ number) }
+    ensures stamp { IfOk result (λ grant. (grant.stamp ≤ arriving.entry.moment + arriving.entry.age) × (arriving.entry.moment ≤ grant.stamp + arriving.entry.age)) }
     ensures fault { MatchResult result (λ _. Unit {0}) (IsServedFault stanza.now (arrival_of arriving.entry)) }
     ensures least_steps { steps.old ≤ steps.new }
     ensures most_steps { steps.new ≤ steps.old + served_blocks (arrival_of arriving.entry) stanza.now }
