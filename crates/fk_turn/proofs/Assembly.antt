@@ -9,12 +9,13 @@ use Rattle.fk_trace.specs.declared.change.OpenRecord.{OpenRecord}
 use Rattle.fk_trace.specs.declared.change.Change.{Change}
 use Rattle.fk_trace.specs.declared.change.Change.TheVariants.{Open as OpenChange, Done}
 use Rattle.fk_trace.specs.Trace.{Event, Item, Child, running, still_running, begun_by, is_turn, is_close_attempt_of, close_tried, past_after, close_attempted}
-use Rattle.fk_trace.specs.Ledger.{live, seen, after, opens, dones, IsLedger}
+use Rattle.fk_trace.specs.Ledger.{Key, live, seen, after, opens, dones, IsLedger}
 use Rattle.fk_trace.specs.Decision.{FeedTurn, Answer, answer, recorded_by}
 use Rattle.fk_trace.specs.Settled.{settlements}
 use Rattle.fk_trace.specs.Attempts.{IsPollOf}
 use Rattle.fk_trace.specs.Idle.{ends_after, is_idle}
-use Rattle.fk_trace.proofs.Ledgers.{opens-append, seen-append_none}
+use Rattle.fk_trace.proofs.Ledgers.{opens-append, seen-push_done, after-append}
+use Rattle.fk_trace.proofs.Grants.{dones-answer}
 use Rattle.fk_trace.proofs.Settled.{past_after-append}
 use Rattle.fk_trace.proofs.Lists.{Contains-head, Contains-tail, Contains-cases, Contains-filter, Contains-unmap}
 use Rattle.fk_run.specs.Left.{is_attempt}
@@ -45,7 +46,7 @@ use Rattle.fk_turn.specs.Parts.{beginning, BeginsTurn, settlement, SettlesWhole,
 use Rattle.fk_turn.proofs.Items.{Tries, Polls, polls-no_turns, polls-close_none, opened-tries, opened-close_none, polled-polls, all-joined, tried-after, tried-none, tries-no_turns, ends_after-append, polls-others, tries-attempts}
 use Rattle.fk_turn.proofs.Places.{place-same, serves-join, next-stands, scene_next}
 use Rattle.fk_turn.proofs.Calls.{IsFirst, first-brought, first-then}
-use Rattle.fk_turn.proofs.Lines.{taken_turn, lines-of, no_refusal-told, dones-recorded, dones-part, opens-settled}
+use Rattle.fk_turn.proofs.Lines.{taken_turn, lines-of, no_refusal-told, dones-part, opens-settled}
 use Rattle.fk_turn.proofs.Finishing.{finishes, passing, next-joined, next-tries, turn-tries}
 use Rattle.fk_child.proofs.Images.{adds-append, calls-then, calls-same}
 use Rattle.fk_child.proofs.Turns.{attempts-each}
@@ -56,7 +57,12 @@ use Rattle.fk_turn.proofs.Wholes.{GoesOn, goes-on, settled-ledger, settled_place
 pub adds-onto : (xs ys : List Item) (ledger b : List Change) (whole : Bool) (u v w : View) → (b ≡ []) ⊎ AllByRecursion (λ item. is_attempt item.event ≡ false) xs
     → Adds xs ledger [] true u v → v.faults ≡ u.faults → Adds ys ledger b whole v w → Adds (xs ++ ys) ledger b whole u w
 adds-onto xs ys ledger b whole u v w order first same second =
-    adds-append xs ys ledger [] b (record { attempts = order; others = inl refl }) whole u v w first same (subst (λ (cs : List Change). Adds ys cs b whole v w) (sym (append-nil ledger)) second)
+    adds-append xs ys ledger [] b (record { attempts = order; others = inl refl }) whole u v w first same second
+
+-- what is settled stays seen
+seen-settled : (ledger : List Change) (ids : List ℕ) → seen (after ledger (map Done ids)) ≡ seen ledger
+seen-settled ledger [] = refl
+seen-settled ledger (id ∷ ids) = seen-settled (ledger ++ Done id ∷ []) ids ∙ seen-push_done ledger id
 
 pub part-same : (a b : Part) → a.items ≡ b.items → a.changes ≡ b.changes → a.lines ≡ b.lines → a ≡ b
 part-same a b i c l =
@@ -133,7 +139,7 @@ module _ (policy : Policy) (place : Place) (turn : FeedTurn) (s0 s1 : Scene) (b 
   part1 = beginning turn.moment place b.start b.polled
 
   polled-reached : polled_place ≡ reached turn.moment place part1
-  polled-reached = place-same polled_place (reached turn.moment place part1) refl refl (sym (append-nil place.ledger)) refl
+  polled-reached = place-same polled_place (reached turn.moment place part1) refl refl refl refl
 
   pub begun-stands : DaemonStands conf s1 polled_place
   begun-stands = subst (DaemonStands conf s1) (sym polled-reached) b.serves.stands
@@ -147,6 +153,10 @@ module _ (policy : Policy) (place : Place) (turn : FeedTurn) (s0 s1 : Scene) (b 
 
   abbrev answer_given : Answer
   answer_given = given (rules_by policy) place turn b.start b.polled ids
+
+  -- what is recorded settles nothing
+  dones-given : dones (recorded_by answer_given) ≡ []
+  dones-given = dones-answer (rules_by policy) answer_place.ledger turn answer_given refl
 
   -- the turn began with the first call
   first1 : IsFirst b.start s0.host s1.host
@@ -280,7 +290,7 @@ module _ (policy : Policy) (place : Place) (turn : FeedTurn) (s0 s1 : Scene) (b 
           )
           | inr e ↦ ([], append-nil made ∙ ap (λ (cs : List Change). map Done ids ++ cs) e.0)
         ] in
-        let none : dones w.changes ≡ [] = elim w.front [ inl e ↦ ap dones e.0 | inr e ↦ ap dones e.0 ∙ dones-recorded answer_given ] in
+        let none : dones w.changes ≡ [] = elim w.front [ inl e ↦ ap dones e.0 | inr e ↦ ap dones e.0 ∙ dones-given ] in
         let total : length made ≡ length (map Done ids) + length w.changes = length-append (map Done ids) w.changes in
         let lines : List Line = input_lines turn.moment turn.input Untold w.changes answer_given in
         let worth : IsWorthMemory policy place (record { turn = turn; items = b.start ∷ b.polled; changes = made }) = record {
@@ -289,7 +299,7 @@ module _ (policy : Policy) (place : Place) (turn : FeedTurn) (s0 s1 : Scene) (b 
             datagram = w.datagram;
             brought = w.brought;
             formed = w.formed;
-            fresh = λ m. w.fresh (subst (λ (ds : List (List ℕ)). Contains ds ((rules_by policy).digest w.datagram)) (sym (seen-append_none place.ledger (map Done ids) (opens-settled ids))) m);
+            fresh = λ m. w.fresh (subst (λ (keys : List Key). Contains (map (λ key. key.digest) keys) ((rules_by policy).digest w.datagram)) (sym (seen-settled place.ledger ids)) m);
           };
           code = (w.source, w.datagram, w.brought, w.code);
         } in
@@ -324,7 +334,7 @@ module _ (policy : Policy) (place : Place) (turn : FeedTurn) (s0 s1 : Scene) (b 
           may = inr (λ id. ap (λ (event : Event). is_close_attempt_of id event || close_attempted b.polled id) b.begins ∙ polls-close_none id b.polled polls);
           logs = subst (λ (xs : List Line). Logs xs s0.output s3.output) (sym (cut-lines Untold ids w.changes made refl none))
               (Logs-append plain2.lines lines s0.output s2.output s3.output plainly2.logs w.logs);
-          book = w.book ∙ append_assoc place.ledger (map Done ids) w.changes;
+          book = w.book ∙ sym (after-append place.ledger (map Done ids) w.changes);
           parks = w.parks;
         }
 
@@ -376,7 +386,7 @@ module _ (policy : Policy) (place : Place) (turn : FeedTurn) (s0 s1 : Scene) (b 
             let input : List Line = input_lines turn.moment turn.input Told (recorded_by answer_given) answer_given in
             ap (λ (xs : List Line). xs ++ attempt_lines turn.moment done.closed) (sym (append_assoc plain2.lines input (attempt_lines turn.moment a.opened)))
             ∙ append_assoc (plain2.lines ++ input) (attempt_lines turn.moment a.opened) (attempt_lines turn.moment done.closed)
-            ∙ sym (lines-of (rules_by policy) place Told turn b.start b.polled a.opened done.closed ids (recorded_by answer_given) b.begins polls tries closed-tries (dones-recorded answer_given))
+            ∙ sym (lines-of (rules_by policy) place Told turn b.start b.polled a.opened done.closed ids (recorded_by answer_given) b.begins polls tries closed-tries (dones-given))
 
         serves4 : ServesPart conf turn.moment place plain4 s0 s4
         serves4 =
@@ -422,7 +432,7 @@ module _ (policy : Policy) (place : Place) (turn : FeedTurn) (s0 s1 : Scene) (b 
             place-same behind_closes end_place
             (sym (past_after-append past (b.polled ++ a.opened) done.closed ∙ ap (λ (p : List Item). past_after p done.closed) (past_after-append past b.polled a.opened)))
             (sym (ends_after-append turn.moment ends (b.polled ++ a.opened) done.closed ∙ ap (λ (e : List ℕ). ends_after turn.moment e done.closed) (ends_after-append turn.moment ends b.polled a.opened)))
-            (append_assoc place.ledger (map Done ids) (recorded_by answer_given)) refl
+            (sym (after-append place.ledger (map Done ids) (recorded_by answer_given))) refl
 
         others-no_turns : AllByRecursion (λ item. is_turn item.event ≡ false) ((b.polled ++ a.opened) ++ done.closed)
         others-no_turns =
@@ -465,7 +475,7 @@ module _ (policy : Policy) (place : Place) (turn : FeedTurn) (s0 s1 : Scene) (b 
                 cause = inr (close-wanted next.0 next.1);
                 calls = calls-same (calls_for taken.items taken.changes + further) (calls_for taken.items taken.changes + 1) s0.host s4.host (omega (arith, one)) calls4;
               });
-              settled = ap (map Done) (dones-part ids (recorded_by answer_given) (dones-recorded answer_given))
+              settled = ap (map Done) (dones-part ids (recorded_by answer_given) (dones-given))
                   ∙ sym (ap (λ (xs : List Item). settlements place.past (b.start ∷ xs)) (append_assoc b.polled a.opened done.closed)
                   ∙ settles-polled (rules_by policy) place turn b.start b.polled ids begins (a.opened ++ done.closed) (all-joined Tries a.opened done.closed tries closed-tries));
               begun = first-then b.start (length done.closed + further) s0.host s3.host s4.host

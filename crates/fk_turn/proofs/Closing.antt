@@ -120,7 +120,7 @@ next-more moment place [] x a n = (n, tt)
 next-more moment place (y ∷ ys) x a n = (a.0, next-more moment (behind moment place (y ∷ [])) ys x a.1 n)
 
 behind-reached : (moment : ℕ) (place : Place) (xs : List Item) → behind moment place xs ≡ reached moment place (closing_part moment xs)
-behind-reached moment place xs = place-same (behind moment place xs) (reached moment place (closing_part moment xs)) refl refl (sym (append-nil place.ledger)) refl
+behind-reached moment place xs = place-same (behind moment place xs) (reached moment place (closing_part moment xs)) refl refl refl refl
 
 pub closes-none : (conf : Conf) (moment : ℕ) (place : Place) (at : Scene) → AtRest conf at place → Adds [] place.ledger [] true at.host at.host → AttemptsCloses 0 conf moment place at at
 closes-none conf moment place at rest adds = record { closed = []; calls = calls-none at.host; attempts = tt; serves = serves-nothing conf moment place at rest.stands adds; settled = rest.settled }

@@ -156,16 +156,16 @@ polled-polls (child ∷ order) (item ∷ items) h = ((child, h.0), polled-polls 
 pub opened-tries : (given : Answer) (items : List Item) → AttemptsThatOpen given items → AllByRecursion Tries items
 opened-tries Nothing items h = rw h tt
 opened-tries (Refuses why) items h = rw h tt
-opened-tries (Opens item permit) [] h = absurd h
-opened-tries (Opens item permit) (x ∷ []) h = ((Open item.id, permit.opening, h), tt)
-opened-tries (Opens item permit) (x ∷ y ∷ items) h = absurd h
+opened-tries (Opens item permit changes) [] h = absurd h
+opened-tries (Opens item permit changes) (x ∷ []) h = ((Open item.id, permit.opening, h), tt)
+opened-tries (Opens item permit changes) (x ∷ y ∷ items) h = absurd h
 
 pub opened-close_none : (id : ℕ) (given : Answer) (items : List Item) → AttemptsThatOpen given items → close_attempted items id ≡ false
 opened-close_none id Nothing items h = rw h refl
 opened-close_none id (Refuses why) items h = rw h refl
-opened-close_none id (Opens item permit) [] h = absurd h
-opened-close_none id (Opens item permit) (x ∷ []) h = rw (open-no_close id item.id permit.opening x.event h) refl
-opened-close_none id (Opens item permit) (x ∷ y ∷ items) h = absurd h
+opened-close_none id (Opens item permit changes) [] h = absurd h
+opened-close_none id (Opens item permit changes) (x ∷ []) h = rw (open-no_close id item.id permit.opening x.event h) refl
+opened-close_none id (Opens item permit changes) (x ∷ y ∷ items) h = absurd h
 
 -- lists that are joined
 pub all-joined : (P : Item → Type 0) (a b : List Item) → AllByRecursion P a → AllByRecursion P b → AllByRecursion P (a ++ b)

@@ -5,12 +5,12 @@ use Rattle.std.proofs.lemmas.List.Elements.{filter_map-append}
 use Rattle.fk_base.specs.declared.address.Ip4.{Ip4}
 use Rattle.fk_trace.specs.declared.change.OpenRecord.{OpenRecord}
 use Rattle.fk_trace.specs.declared.change.Change.{Change}
-use Rattle.fk_trace.specs.declared.change.Change.TheVariants.{Open as OpenChange, Done}
+use Rattle.fk_trace.specs.declared.change.Change.TheVariants.{Done}
 use Rattle.fk_trace.specs.Trace.{Event, Item, Child, attempt_of, past_after}
 use Rattle.fk_trace.specs.Trace.Event.{Turn, Began, StartFailed, Ended, Runs, PollFailed}
 use Rattle.fk_trace.specs.Ledger.{opens, dones, after}
 use Rattle.fk_trace.specs.Idle.{child_numbered}
-use Rattle.fk_trace.specs.Decision.{FeedTurn, Input, Rules, Answer, answer, recorded_by}
+use Rattle.fk_trace.specs.Decision.{FeedTurn, Input, Rules, Answer, answer}
 use Rattle.fk_trace.specs.Decision.Input.{Quiet, Datagram}
 use Rattle.fk_trace.specs.Decision.Answer.{Nothing, Refuses, Opens}
 use Rattle.fk_trace.proofs.Ledgers.{opens-append, dones-append}
@@ -33,11 +33,6 @@ pub opens-settled : (ids : List ℕ) → opens (map Done ids) ≡ []
 opens-settled [] = refl
 opens-settled (id ∷ ids) = opens-settled ids
 
-pub dones-recorded : (given : Answer) → dones (recorded_by given) ≡ []
-dones-recorded Nothing = refl
-dones-recorded (Refuses why) = refl
-dones-recorded (Opens item permit) = refl
-
 pub dones-part : (ids : List ℕ) (more : List Change) → dones more ≡ [] → dones (map Done ids ++ more) ≡ ids
 dones-part ids more none =
     dones-append (map Done ids) more ∙ ap (λ (xs : List ℕ). xs ++ dones more) (dones-settled ids) ∙ ap (λ (xs : List ℕ). ids ++ xs) none ∙ append-nil ids
@@ -49,7 +44,7 @@ answered : (moment : ℕ) (source : Ip4) (refusal : RefusalLine) (a b : List Cha
 answered moment source refusal a b Nothing e = refl
 answered moment source Told a b (Refuses why) e = refl
 answered moment source Untold a b (Refuses why) e = refl
-answered moment source refusal a b (Opens item permit) e = ap (map (λ (made : OpenRecord). GrantedLine moment source made.id permit.stanza made.due)) e
+answered moment source refusal a b (Opens item permit changes) e = ap (map (λ (made : OpenRecord). GrantedLine moment source made.id permit.stanza made.due)) e
 
 input-same : (moment : ℕ) (input : Input) (refusal : RefusalLine) (a b : List Change) (given : Answer) → opens a ≡ opens b → input_lines moment input refusal a given ≡ input_lines moment input refusal b given
 input-same moment Quiet refusal a b given e = refl
@@ -60,15 +55,7 @@ pub no_refusal-told : (moment : ℕ) (input : Input) (given : Answer) → input_
 no_refusal-told moment Quiet given = refl
 no_refusal-told moment (Datagram source datagram) Nothing = refl
 no_refusal-told moment (Datagram source datagram) (Refuses why) = refl
-no_refusal-told moment (Datagram source datagram) (Opens item permit) = refl
-
--- where the record is made, its line does not depend on whether a refusal is told
-pub record-told : (moment : ℕ) (input : Input) (item : OpenRecord) (given : Answer) → recorded_by given ≡ OpenChange item ∷ []
-    → input_lines moment input Untold (recorded_by given) given ≡ input_lines moment input Told (recorded_by given) given
-record-told moment Quiet item given e = refl
-record-told moment (Datagram source datagram) item Nothing e = refl
-record-told moment (Datagram source datagram) item (Refuses why) e = absurd cc
-record-told moment (Datagram source datagram) item (Opens made permit) e = refl
+no_refusal-told moment (Datagram source datagram) (Opens item permit changes) = refl
 
 module _ (rules : Rules) (place : Place) (refusal : RefusalLine) (turn : FeedTurn) (start : Item) (polled opened closed : List Item) (ids : List ℕ) (more : List Change) where
   abbrev pub taken_turn : TakenTurn

@@ -1,7 +1,8 @@
 -- A datagram is refused, or recorded and opened.
-use Rattle.std.proofs.Common.{◌≡◌, ℕ, ◌+◌, Bool, true, false, cond, List, [], ◌∷◌, ◌++◌, Option, None, Result, Ok, Err, inl, inr, refl, sym, ap, subst, ◌∙◌, append-nil}
+use Rattle.std.proofs.Common.{◌≡◌, ℕ, ◌+◌, ◌≤◌, Bool, true, false, cond, List, [], ◌∷◌, ◌++◌, Option, Some, None, Result, Ok, Err, inl, inr, refl, sym, ap, subst, ◌∙◌}
 use Rattle.std.specs.Prelude.{IsErrAnd}
-use Rattle.std.specs.List.{Contains, cons_option}
+use Rattle.std.proofs.lemmas.Bool.{le-ltb}
+use Rattle.std.specs.List.{cons_option}
 use Rattle.fk_base.specs.declared.address.Ip4.{Ip4}
 use Rattle.fk_base.specs.declared.grant.Grant.{Grant}
 use Rattle.fk_base.specs.declared.purpose.Purpose.{Purpose}
@@ -10,15 +11,15 @@ use Rattle.fk_trace.specs.declared.change.OpenRecord.{OpenRecord}
 use Rattle.fk_trace.specs.declared.change.Change.{Change}
 use Rattle.fk_trace.specs.declared.change.Change.TheVariants.{Open as OpenChange}
 use Rattle.fk_trace.specs.declared.refusal.LogWhy.{LogWhy}
-use Rattle.fk_trace.specs.declared.refusal.LogWhy.TheVariants.{Replay, Full}
+use Rattle.fk_trace.specs.declared.refusal.LogWhy.TheVariants.{Replay, Stale, Full}
 use Rattle.fk_trace.specs.Trace.{Event, Item, attempt_of}
 use Rattle.fk_trace.specs.Trace.Event.{Turn, Began, StartFailed, Ended, Runs, PollFailed}
-use Rattle.fk_trace.specs.Ledger.{after, is_seen, seen, MayFollow}
-use Rattle.fk_trace.specs.Decision.{FeedTurn, Permit, Rules, Verdict, Answer, answer_formed, answer_by, record_of, recorded_by}
+use Rattle.fk_trace.specs.Ledger.{after, is_seen, floor_of, IsSeen, MayMake}
+use Rattle.fk_trace.specs.Decision.{FeedTurn, Permit, Rules, Verdict, Answer, making, answer_made, answer_formed, answer_by, record_of, recorded_by}
 use Rattle.fk_trace.specs.Decision.Input.{Quiet}
 use Rattle.fk_trace.specs.Decision.Answer.{Refuses, Opens}
 use Rattle.fk_trace.specs.Attempts.{IsAttempt, AttemptsThatOpen}
-use Rattle.fk_trace.proofs.Grants.{fresh-unseen}
+use Rattle.fk_trace.proofs.Grants.{fresh-unseen, making-made}
 use Rattle.fk_run.specs.Place.{Place}
 use Rattle.fk_host.specs.Count.{counted}
 use Rattle.fk_host.specs.Disk.{IfTold, Above}
@@ -28,7 +29,8 @@ use Rattle.fk_log.specs.Log.{input_lines, attempt_line, attempt_lines}
 use Rattle.fk_log.specs.Log.RefusalLine.{Untold}
 use Rattle.fk_log.specs.Writing.{Output, Logs}
 use Rattle.fk_conf.specs.declared.conf.Conf.{Conf}
-use Rattle.fk_ledger.specs.Book.{Book, has_room, live_ids}
+use Rattle.fk_ledger.specs.Book.{Book, room_of, room_within, live_ids}
+use Rattle.fk_ledger.specs.Payloads.{greatest_stamp}
 use Rattle.fk_ledger.specs.Holds.{KeepsLedger}
 use Rattle.fk_ledger.specs.Stretch.{Stretch}
 use Rattle.fk_child.specs.View.{View, MakesCalls, Adds, SparesOthers}
@@ -105,33 +107,39 @@ module _ (policy : Policy) (place : Place) (moment : ℕ) (source : Ip4) (datagr
   abbrev turn : FeedTurn
   turn = datagram_turn moment source datagram
 
+  abbrev made_of_permit : OpenRecord
+  made_of_permit = record_of rules place.ledger moment datagram permit
+
   -- what is answered then depends on the room alone
-  by-room : answer_at policy place turn ≡ cond (rules.has_room place.ledger item) (Opens item permit) (Refuses Full)
+  by-room : answer_at policy place turn ≡ answer_made item permit (making rules.room place.ledger (OpenChange item))
   by-room =
       ap (λ (shape : Option LogWhy). answer_formed rules place.ledger moment source datagram shape) granted.formed
       ∙ ap (λ (known : Bool). cond known (Refuses Replay) (answer_by rules place.ledger moment datagram (rules.admit moment source datagram))) granted.unseen
       ∙ ap (λ (verdict : Verdict). answer_by rules place.ledger moment datagram verdict) granted.admitted
-      ∙ ap (λ (x : OpenRecord). cond (rules.has_room place.ledger x) (Opens x permit) (Refuses Full)) (sym made)
+      ∙ ap (λ (stale : Bool). cond stale (Refuses Stale) (answer_made made_of_permit permit (making rules.room place.ledger (OpenChange made_of_permit))))
+      (le-ltb permit.stamp (floor_of place.ledger) granted.current)
+      ∙ ap (λ (x : OpenRecord). answer_made x permit (making rules.room place.ledger (OpenChange x))) (sym made)
 
   module _ (d : DaemonState) (h0 : View) (o0 : Output) (rest : AtRest policy.conf.now (scene d h0 o0) place) where
     -- the room in the ledger is that of the rules
-    room-is : has_room d.book.room d.book.limit d.book.changes item ≡ rules.has_room place.ledger item
+    room-is : making (room_of d.book) d.book.changes (OpenChange item) ≡ making rules.room place.ledger (OpenChange item)
     room-is =
-        ap (λ (n : ℕ). has_room n d.book.limit d.book.changes item) rest.stands.room
-        ∙ ap (λ (n : ℕ). has_room policy.conf.now.room n d.book.changes item) rest.stands.limit
-        ∙ ap (λ (cs : List Change). has_room policy.conf.now.room policy.conf.now.live cs item) rest.stands.changes
+        ap (λ (n : ℕ). making (room_within n d.book.limit) d.book.changes (OpenChange item)) rest.stands.room
+        ∙ ap (λ (n : ℕ). making (room_within policy.conf.now.room n) d.book.changes (OpenChange item)) rest.stands.limit
+        ∙ ap (λ (cs : List Change). making rules.room cs (OpenChange item)) rest.stands.changes
 
-    pub full-refused : has_room d.book.room d.book.limit d.book.changes item ≡ false → answer_at policy place turn ≡ Refuses Full
-    full-refused full = by-room ∙ ap (λ (b : Bool). cond b (Opens item permit) (Refuses Full)) (sym room-is ∙ full)
+    pub full-refused : making (room_of d.book) d.book.changes (OpenChange item) ≡ None → answer_at policy place turn ≡ Refuses Full
+    full-refused full = by-room ∙ ap (answer_made item permit) (sym room-is ∙ full)
 
-    pub room-opens : (has_room d.book.room d.book.limit d.book.changes item ≡ false → ⊥) → answer_at policy place turn ≡ Opens item permit
-    room-opens some = by-room ∙ (elim (rules.has_room place.ledger item) as (λ b. rules.has_room place.ledger item ≡ b → cond b (Opens item permit) (Refuses Full) ≡ Opens item permit) [
-      | true ↦ λ e. refl
-      | false ↦ λ e. absurd (some (room-is ∙ e))
-    ]) refl
+    pub room-opens : (making (room_of d.book) d.book.changes (OpenChange item) ≡ None → ⊥) → answer_at policy place turn ≡ Opens item permit (OpenChange item ∷ [])
+    room-opens some = by-room ∙ made-opens (making rules.room place.ledger (OpenChange item)) refl
+      where
+        made-opens : (m : Option (List Change)) → making rules.room place.ledger (OpenChange item) ≡ m → answer_made item permit m ≡ Opens item permit (OpenChange item ∷ [])
+        made-opens (Some changes) e = ap (λ (cs : List Change). Opens item permit cs) (making-made rules place.ledger item changes e)
+        made-opens None e = absurd (some (room-is ∙ e))
 
     -- the disk failed in the call that records
-    pub fails-record : (book : Book) (h1 : View) → answer_at policy place turn ≡ Opens item permit
+    pub fails-record : (book : Book) (h1 : View) → answer_at policy place turn ≡ Opens item permit (OpenChange item ∷ [])
         → IfTold h0.told h1.told (λ before later. later.trace ≡ before.trace)
         → IfTold h0.told h1.told (Stretch d.book.changes (OpenChange item ∷ []) false h0.images h1.images) → SparesOthers h0 h1
         → h1.faults ≡ counted h0.faults → book.changes ≡ d.book.changes
@@ -149,7 +157,7 @@ module _ (policy : Policy) (place : Place) (moment : ℕ) (source : Ip4) (datagr
     }
 
     -- the record was made
-    module _ (book : Book) (h1 : View) (opens : answer_at policy place turn ≡ Opens item permit)
+    module _ (book : Book) (h1 : View) (opens : answer_at policy place turn ≡ Opens item permit (OpenChange item ∷ []))
         (trace : IfTold h0.told h1.told (λ before later. later.trace ≡ before.trace)) (above : h1.above ≡ h0.above)
         (stretch : IfTold h0.told h1.told (Stretch d.book.changes (OpenChange item ∷ []) true h0.images h1.images)) (spares : SparesOthers h0 h1) (faults : h1.faults ≡ h0.faults)
         (kept : book ≡ record d.book { changes = after d.book.changes (OpenChange item ∷ []); reserved = book.reserved }) where
@@ -203,7 +211,7 @@ module _ (policy : Policy) (place : Place) (moment : ℕ) (source : Ip4) (datagr
             let s2 : Scene = scene (record { book = book; crew = crew; turns = d.turns }) h2 o2 in
             let lines : OpenedLine moment item.id opening begun ∷ [] ≡ attempt_lines moment (attempt ∷ []) =
             ap (λ (b : Bool). OpenedLine moment item.id opening b ∷ []) is ∙ sym (open-line moment item.id opening attempt.event tried) in
-            let serves : ServesPart policy.conf.now moment place (answering turn (Opens item permit) (attempt ∷ [])) (scene d h0 o0) s2 = record {
+            let serves : ServesPart policy.conf.now moment place (answering turn (Opens item permit (OpenChange item ∷ [])) (attempt ∷ [])) (scene d h0 o0) s2 = record {
               adds = adds-append [] (attempt ∷ []) place.ledger (OpenChange item ∷ []) []
                   (record { attempts = inl refl; others = inr (tries-attempts (attempt ∷ []) ((Open item.id, opening, tried), tt)) }) true h0 h1 h2 adds1 faults goes.adds;
               disk = goes.disk ∙ faults;
@@ -285,17 +293,23 @@ wants-before policy place moment source datagram d e h o rest formed unseen code
       adds = adds;
       disk = refl;
       logs = subst (λ (xs : List Line). Logs xs o o) (sym (no_refusal-told moment at.input (answer_at policy place at))) (logs-nothing o);
-      book = (like-rests policy.conf.now d e h o place like rest).stands.changes ∙ sym (append-nil place.ledger);
+      book = (like-rests policy.conf.now d e h o place like rest).stands.changes;
       parks = owes-live policy.conf.now (scene e h o) place (like-rests policy.conf.now d e h o place like rest).stands;
     }
 
 -- the record of a draft may follow
 pub draft-follows : (policy : Policy) (ledger : List Change) (moment : ℕ) (source : Ip4) (datagram : List ℕ) (grant : Grant) (draft : Draft) → IsGrantedBy policy ledger moment source datagram grant
-    → IsDraftOf policy ledger moment datagram grant draft → MayFollow ledger (OpenChange draft.item)
+    → IsDraftOf policy ledger moment datagram grant draft → MayMake ledger (OpenChange draft.item)
 draft-follows policy ledger moment source datagram grant draft granted is = (
   ap (λ (x : OpenRecord). x.id) is.item,
-  subst (λ (x : OpenRecord). Contains (seen ledger) x.digest.0 → ⊥) (sym is.item) (fresh-unseen ((rules_by policy).digest datagram) ledger granted.unseen),
+  subst (λ (x : OpenRecord). IsSeen x.digest.0 ledger → ⊥) (sym is.item) (fresh-unseen ((rules_by policy).digest datagram) ledger granted.unseen),
 )
+
+-- and its stamp may be recorded
+pub draft-stamp : (policy : Policy) (ledger : List Change) (moment : ℕ) (source : Ip4) (datagram : List ℕ) (grant : Grant) (draft : Draft) → IsGrantedBy policy ledger moment source datagram grant
+    → IsDraftOf policy ledger moment datagram grant draft → (floor_of ledger ≤ draft.item.stamp) × (draft.item.stamp ≤ greatest_stamp)
+draft-stamp policy ledger moment source datagram grant draft granted is =
+    subst (λ (x : OpenRecord). (floor_of ledger ≤ x.stamp) × (x.stamp ≤ greatest_stamp)) (sym is.item) (granted.current, granted.stamp)
 
 -- what was answered over a daemon that has made room
 pub answers-from : {T : Type 0} (policy : Policy) (place : Place) (at : FeedTurn) (d e : DaemonState) (h : View) (o : Output) (new : Scene) (r : Result T TurnErr)

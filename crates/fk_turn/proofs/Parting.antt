@@ -71,7 +71,7 @@ begins conf moment number place book turns c0 c1 c2 h0 h1 h2 o0 o1 o2 rest is li
         adds = adds-onto (start ∷ []) polls.items place.ledger [] true h0 h1 h2 (inl refl) goes.adds goes.disk polls.goes.adds;
         disk = polls.goes.disk ∙ goes.disk;
         logs = subst (λ (xs : List Line). Logs xs o0 o2) lines (Logs-append (TurnLine moment number ∷ []) (map (end_line moment) c2.ends) o0 o1 o2 line ends);
-        stands = subst (DaemonStands conf s2) (place-same at (reached moment place (beginning moment place start polls.items)) refl refl (sym (append-nil place.ledger)) refl) stands;
+        stands = subst (DaemonStands conf s2) (place-same at (reached moment place (beginning moment place start polls.items)) refl refl refl refl) stands;
       };
       unsettled = polls.unsettled;
     }
@@ -81,7 +81,7 @@ abbrev pub nothing : Part
 nothing = record { items = []; changes = []; lines = [] }
 
 pub reached-nothing : (moment : ℕ) (place : Place) → place ≡ reached moment place nothing
-reached-nothing moment place = place-same place (reached moment place nothing) refl refl (sym (append-nil place.ledger)) refl
+reached-nothing moment place = place-same place (reached moment place nothing) refl refl refl refl
 
 pub serves-nothing : (conf : Conf) (moment : ℕ) (place : Place) (at : Scene) → DaemonStands conf at place → Adds [] place.ledger [] true at.host at.host → ServesPart conf moment place nothing at at
 serves-nothing conf moment place at h adds = record { adds = adds; disk = refl; logs = logs-nothing at.output; stands = subst (DaemonStands conf at) (reached-nothing moment place) h }

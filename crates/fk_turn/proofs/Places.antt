@@ -1,5 +1,6 @@
 -- The places behind the parts of a turn, and parts that adjoin.
-use Rattle.std.proofs.Common.{◌≡◌, ℕ, ◌+◌, true, refl, sym, ap, subst, ◌∙◌, append_assoc}
+use Rattle.std.proofs.Common.{◌≡◌, ℕ, ◌+◌, true, refl, sym, ap, subst, ◌∙◌}
+use Rattle.fk_trace.proofs.Ledgers.{after-append}
 use Rattle.fk_trace.proofs.Settled.{past_after-append}
 use Rattle.fk_run.specs.Left.{MayStandBefore}
 use Rattle.fk_run.specs.Place.{Place}
@@ -19,7 +20,7 @@ place-same a b p e l n =
 pub reached-join : (moment : ℕ) (place : Place) (a b : Part) → reached moment (reached moment place a) b ≡ reached moment place (joined a b)
 reached-join moment place a b =
     place-same (reached moment (reached moment place a) b) (reached moment place (joined a b))
-    (sym (past_after-append place.past a.items b.items)) (sym (ends_after-append moment place.ends a.items b.items)) (append_assoc place.ledger a.changes b.changes) refl
+    (sym (past_after-append place.past a.items b.items)) (sym (ends_after-append moment place.ends a.items b.items)) (sym (after-append place.ledger a.changes b.changes)) refl
 
 -- parts that adjoin are one
 pub serves-join : (conf : Conf) (moment : ℕ) (place : Place) (a b : Part) (u v w : Scene)

@@ -4,23 +4,24 @@ use Rattle.std.specs.Prelude.{◌≢◌}
 use Rattle.std.specs.List.{All, AllByRecursion, AllPairs, Contains, cons_option}
 use Rattle.std.proofs.lemmas.List.Elements.{All-head, All-contains}
 use Rattle.fk_base.specs.declared.purpose.Purpose.TheVariants.{Open}
-use Rattle.fk_trace.specs.declared.change.OpenRecord.{OpenRecord}
 use Rattle.fk_trace.specs.declared.change.Change.{Change}
-use Rattle.fk_trace.specs.declared.change.Change.TheVariants.{Open as OpenChange, Done}
+use Rattle.fk_trace.specs.declared.change.Change.TheVariants.{Done}
 use Rattle.fk_trace.specs.Trace.{Event, Item, close_tried, past_after}
 use Rattle.fk_trace.specs.Trace.Event.{Turn, StartFailed}
-use Rattle.fk_trace.specs.Ledger.{seen, after, IsLedger, MayFollow}
-use Rattle.fk_trace.specs.Decision.{FeedTurn, Rules, Permit, Answer, answer, recorded_by}
+use Rattle.fk_trace.specs.Ledger.{after, IsLedger}
+use Rattle.fk_trace.specs.Decision.{FeedTurn, Rules, Answer, answer, recorded_by}
 use Rattle.fk_trace.specs.Decision.Answer.{Nothing, Refuses, Opens}
 use Rattle.fk_trace.specs.Settled.{settled_at, settled_in, settlements}
 use Rattle.fk_trace.specs.Attempts.{PollsEachOnce, AttemptsThatOpen, IsNoAttempt}
-use Rattle.fk_trace.proofs.Grants.{granted-opens}
+use Rattle.fk_trace.proofs.Grants.{answer-made}
+use Rattle.fk_trace.proofs.Ledgers.{after-append}
+use Rattle.fk_trace.proofs.Made.{IsLive}
 use Rattle.fk_trace.proofs.Lists.{All-by, Contains-tail}
 use Rattle.fk_trace.proofs.Settled.{past_after-append, settled_in-append}
 use Rattle.fk_run.specs.Place.{Place, behind, changed}
 use Rattle.fk_run.specs.Turn.{TakenTurn, AttemptsEachDue, WholeTurn, CutTurn}
 use Rattle.fk_run.specs.Planned.{planned_turn}
-use Rattle.fk_run.proofs.Ledgers.{ledger-push, live-kept_done}
+use Rattle.fk_run.proofs.Ledgers.{ledger-push, ledger-made, live-kept_done}
 use Rattle.fk_ledger.specs.Book.{live_ids}
 use Rattle.fk_child.specs.Crew.{obligations_but}
 use Rattle.fk_child.proofs.Turns.{attempts-each}
@@ -30,38 +31,30 @@ use Rattle.fk_turn.proofs.Finishing.{finishes, passing, turn-tries}
 use Rattle.fk_cycle.specs.Stands.{is_due}
 
 -- what is settled follows the ledger
-pub settled-ledger : (ids : List ℕ) (ledger : List Change) → IsLedger ledger → All (Contains (live_ids ledger)) ids → AllPairs (λ a b. a ≢ b) ids → IsLedger (ledger ++ map Done ids)
-settled-ledger [] ledger l waits once = subst IsLedger (sym (append-nil ledger)) l
+pub settled-ledger : (ids : List ℕ) (ledger : List Change) → IsLedger ledger → All (Contains (live_ids ledger)) ids → AllPairs (λ a b. a ≢ b) ids → IsLedger (after ledger (map Done ids))
+settled-ledger [] ledger l waits once = l
 settled-ledger (id ∷ ids) ledger l waits once =
     let first : IsLedger (ledger ++ Done id ∷ []) = ledger-push ledger (Done id) l (All-head (Contains (live_ids ledger)) id ids waits) in
-    subst IsLedger (append_assoc ledger (Done id ∷ []) (map Done ids))
-    (settled-ledger ids (ledger ++ Done id ∷ []) first
+    settled-ledger ids (ledger ++ Done id ∷ []) first
     (All-by (Contains (live_ids (ledger ++ Done id ∷ []))) ids (λ other m.
     let apart : id ≡ get_or ids m.0 other → ⊥ = let within = m.1 in once 0 (suc m.0) other (omega arith) (omega arith) in
     live-kept_done ledger id other (λ e. apart (sym e ∙ sym m.2)) (All-contains (Contains (live_ids ledger)) (id ∷ ids) other waits (Contains-tail id ids other m))))
-    (λ i j d lt within. once (suc i) (suc j) d (omega arith) (omega arith)))
+    (λ i j d lt within. once (suc i) (suc j) d (omega arith) (omega arith))
 
--- what is opened may follow the ledger
-pub opened-follows : (rules : Rules) (ledger : List Change) (turn : FeedTurn) (item : OpenRecord) (permit : Permit) → answer rules ledger turn ≡ Opens item permit → MayFollow ledger (OpenChange item)
-opened-follows rules ledger turn item permit e =
-    let granted = granted-opens item permit rules ledger turn e in
-    (ap (λ (made : OpenRecord). made.id) granted.recorded, subst (λ (made : OpenRecord). Contains (seen ledger) made.digest.0 → ⊥) (sym granted.recorded) granted.fresh)
-
-pub recorded-ledger : (rules : Rules) (ledger : List Change) (turn : FeedTurn) (given : Answer) → answer rules ledger turn ≡ given → IsLedger ledger → IsLedger (ledger ++ recorded_by given)
-recorded-ledger rules ledger turn Nothing e l = subst IsLedger (sym (append-nil ledger)) l
-recorded-ledger rules ledger turn (Refuses why) e l = subst IsLedger (sym (append-nil ledger)) l
-recorded-ledger rules ledger turn (Opens item permit) e l = ledger-push ledger (OpenChange item) l (opened-follows rules ledger turn item permit e)
+-- what is recorded follows it too
+recorded-ledger : (rules : Rules) (ledger : List Change) (turn : FeedTurn) → IsLedger ledger → IsLedger (after ledger (recorded_by (answer rules ledger turn)))
+recorded-ledger rules ledger turn l = ledger-made ledger (recorded_by (answer rules ledger turn)) l (answer-made IsLive rules ledger turn (answer rules ledger turn) refl)
 
 -- the open that an answer asks for, where its start fails
 abbrev pub failed_open : Answer → List Item
 failed_open Nothing = []
 failed_open (Refuses why) = []
-failed_open (Opens item permit) = record { event = StartFailed (Open item.id) permit.opening; moments = 0; faults = 0 } ∷ []
+failed_open (Opens item permit changes) = record { event = StartFailed (Open item.id) permit.opening; moments = 0; faults = 0 } ∷ []
 
 failed-attempts : (given : Answer) → AttemptsThatOpen given (failed_open given)
 failed-attempts Nothing = refl
 failed-attempts (Refuses why) = refl
-failed-attempts (Opens item permit) = (refl, refl)
+failed-attempts (Opens item permit changes) = (refl, refl)
 
 -- how a turn could go on at a place behind its settlements
 pub record GoesOn (rules : Rules) (place : Place) (turn : FeedTurn) : Type 0 where
@@ -82,7 +75,7 @@ goes-on rules place turn t l =
       closed = rest.0;
       attempts = failed-attempts given;
       tries = turn-tries turn.moment at rest.0 rest.1;
-      each = attempts-each turn.moment at rest.0 (recorded-ledger rules place.ledger turn given refl l)
+      each = attempts-each turn.moment at rest.0 (recorded-ledger rules place.ledger turn l)
           (λ id. tried-after id opened place.past (tries-no_turns opened (opened-tries given opened (failed-attempts given)))
           ∙ ap (λ (b : Bool). b || close_tried place.past id) (opened-close_none id given opened (failed-attempts given)) ∙ t id)
           rest.1;
@@ -109,7 +102,7 @@ module _ (rules : Rules) (place : Place) (turn : FeedTurn) (start : Item) (polle
   closes-place opened =
       place-same (changed (behind turn.moment settled_place opened) (recorded_by given)) (before_closes opened)
       (sym (past_after-append (start ∷ place.past) polled opened)) (sym (ends_after-append turn.moment place.ends (start ∷ polled) opened))
-      (append_assoc place.ledger (map Done ids) (recorded_by given)) refl
+      (sym (after-append place.ledger (map Done ids) (recorded_by given))) refl
 
   pub whole-turn : Begins → (opened closed : List Item) (taken : TakenTurn) → taken.turn ≡ turn
       → AttemptsThatOpen given opened → AttemptsEachDue (changed (behind turn.moment settled_place opened) (recorded_by given)) turn.moment closed

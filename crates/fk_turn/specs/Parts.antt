@@ -1,7 +1,6 @@
 -- What each of the four parts of a turn does: its beginning with the polls, the settlements, the answer to what it brought, and the
 -- closes. Only private contracts cite it.
 use Rattle.std.specs.Prelude.{◌≡◌, ◌≢◌, ◌⊎◌, ℕ, ◌+◌, ◌≤◌, length, true, false, List, [], ◌∷◌, ◌++◌, map, None, Result, Ok, Err}
-use Rattle.std.specs.List.{Contains}
 use Rattle.fk_base.specs.CommandWords.{AreCommandWords}
 use Rattle.fk_base.specs.declared.address.Ip4.{Ip4}
 use Rattle.fk_base.specs.declared.grant.Grant.{Grant}
@@ -15,7 +14,7 @@ use Rattle.fk_trace.specs.declared.change.Change.TheVariants.{Open as OpenChange
 use Rattle.fk_trace.specs.declared.refusal.LogWhy.{LogWhy}
 use Rattle.fk_trace.specs.Trace.{Item}
 use Rattle.fk_trace.specs.Trace.Event.{Turn}
-use Rattle.fk_trace.specs.Ledger.{opens, seen, is_seen, after}
+use Rattle.fk_trace.specs.Ledger.{opens, is_seen, IsSeen, floor_of, after}
 use Rattle.fk_trace.specs.Decision.{FeedTurn, Permit, Answer, answer, record_of, recorded_by}
 use Rattle.fk_trace.specs.Decision.Input.{Datagram}
 use Rattle.fk_trace.specs.Decision.Answer.{Refuses, Opens}
@@ -30,7 +29,7 @@ use Rattle.fk_log.specs.Log.{poll_lines, input_lines, attempt_lines}
 use Rattle.fk_log.specs.Log.RefusalLine.{Told, Untold}
 use Rattle.fk_log.specs.Writing.{Logs}
 use Rattle.fk_conf.specs.declared.conf.Conf.{Conf}
-use Rattle.fk_ledger.specs.Payloads.{record_bytes}
+use Rattle.fk_ledger.specs.Payloads.{greatest_stamp, record_bytes}
 use Rattle.fk_child.specs.declared.items.EndItem.{EndItem}
 use Rattle.fk_child.specs.declared.items.PollEnd.{PollEnd}
 use Rattle.fk_child.specs.declared.items.PollEnd.TheVariants.{Good, Bad, Failed as FailedPoll}
@@ -141,7 +140,7 @@ pub record AnswersWhole (policy : Policy) (place : Place) (turn : FeedTurn) (old
 pub record FailsToRecord (policy : Policy) (place : Place) (turn : FeedTurn) (old new : Scene) : Type 0 where
   pub item : OpenRecord
   pub permit : Permit
-  pub given : answer_at policy place turn ≡ Opens item permit
+  pub given : answer_at policy place turn ≡ Opens item permit (OpenChange item ∷ [])
   pub adds : Adds [] place.ledger (OpenChange item ∷ []) false old.host new.host
   pub disk : new.host.faults ≡ counted old.host.faults
   pub logs : Logs [] old.output new.output
@@ -155,7 +154,7 @@ pub record WantsToAnswer (policy : Policy) (place : Place) (turn : FeedTurn) (ol
   pub datagram : List ℕ
   pub brought : turn.input ≡ Datagram source datagram
   pub formed : (rules_by policy).misshapen datagram ≡ None
-  pub fresh : Contains (seen place.ledger) ((rules_by policy).digest datagram) → ⊥
+  pub fresh : IsSeen ((rules_by policy).digest datagram) place.ledger → ⊥
   pub code : HasRightCode policy turn.moment source datagram
   pub changes : List Change
   pub front : ((changes ≡ []) × MakesCalls 0 old.host new.host)
@@ -206,11 +205,13 @@ datagram_turn moment source datagram = record { moment = moment; input = Datagra
 abbrev pub IsRefusedBy : Policy → List Change → ℕ → Ip4 → List ℕ → LogWhy → Type 0
 IsRefusedBy policy ledger moment source datagram why = answer (rules_by policy) ledger (datagram_turn moment source datagram) ≡ Refuses why
 
--- the datagram has the right shape, is not recorded, and is granted so
+-- the datagram has the right shape, is not recorded, and is granted so, under a stamp that isn't below the floor and may be recorded
 pub record IsGrantedBy (policy : Policy) (ledger : List Change) (moment : ℕ) (source : Ip4) (datagram : List ℕ) (grant : Grant) : Type 0 where
   pub formed : (rules_by policy).misshapen datagram ≡ None
   pub unseen : is_seen ((rules_by policy).digest datagram) ledger ≡ false
   pub admitted : (rules_by policy).admit moment source datagram ≡ Granted (permit_of policy.access.now grant)
+  pub current : floor_of ledger ≤ grant.stamp
+  pub stamp : grant.stamp ≤ greatest_stamp
   pub stanza : (1 ≤ grant.stanza) × (grant.stanza ≤ length policy.access.now)
 
 -- the record of a grant and the words of its open, over a ledger

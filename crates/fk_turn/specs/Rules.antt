@@ -21,7 +21,7 @@ use Rattle.fk_admit.specs.declared.refusal.Refusal.{Refusal}
 use Rattle.fk_admit.specs.declared.refusal.Refusal.TheVariants as refusal
 use Rattle.fk_admit.specs.Admit.{admitted, blocks_in_all, refusal_of_shape}
 use Rattle.fk_admit.specs.Arrival.{arrival}
-use Rattle.fk_ledger.specs.Book.{has_room}
+use Rattle.fk_ledger.specs.Book.{room_within}
 use Rattle.fk_turn.specs.declared.feed_turn.FeedTurn.{FeedTurn as GivenTurn}
 use Rattle.fk_turn.specs.declared.feed_turn.FeedInput.{FeedInput}
 use Rattle.fk_turn.specs.declared.feed_turn.FeedInput.TheVariants.{Quiet, Datagram}
@@ -60,6 +60,7 @@ granting stanzas grant = slice_get stanzas (grant.stanza - 1)
 abbrev pub permit_of : List Stanza → Grant → Permit
 permit_of stanzas grant = record {
   stanza = grant.stanza;
+  stamp = grant.stamp;
   seconds = grant.seconds;
   ip = grant.ip;
   pair = first_pair grant.pairs;
@@ -77,7 +78,7 @@ rules_of conf stanzas = record {
   misshapen = λ datagram. option_map (λ fault. why_of (refusal_of_shape fault)) (shape_fault datagram);
   digest = packet_digest;
   admit = λ moment source datagram. verdict_of stanzas (admitted stanzas (arrival conf.age source datagram moment));
-  has_room = has_room conf.room conf.live;
+  room = room_within conf.room conf.live;
 }
 
 -- the same, from what a turn is served by

@@ -3,13 +3,14 @@ ghost use Rattle.std.specs.List.{find};
 ghost use Rattle.fk_base.specs.declared.grant.Grant.{Grant as GivenGrant};
 ghost use Rattle.fk_trace.specs.declared.change.OpenRecord.{OpenRecord};
 ghost use Rattle.fk_trace.specs.declared.change.Change.TheVariants.{Open as OpenChange};
-ghost use Rattle.fk_trace.specs.Ledger.{live, IsLedger, MayFollow};
+ghost use Rattle.fk_trace.specs.Ledger.{floor_of, live, IsLedger, MayMake};
 ghost use Rattle.fk_run.specs.Place.{Place, entry};
 ghost use Rattle.fk_host.specs.Disk.{Above};
 ghost use Rattle.fk_log.specs.Line.Line.{ClosedLine};
 ghost use Rattle.fk_log.specs.Writing.{Logs, output};
 ghost use Rattle.fk_conf.specs.declared.conf.Conf.{Conf};
 ghost use Rattle.fk_ledger.specs.Book.{live_ids};
+ghost use Rattle.fk_ledger.specs.Payloads.{greatest_stamp};
 ghost use Rattle.fk_child.specs.View.{view_of};
 ghost use Rattle.fk_child.specs.Crew.{IsTied};
 ghost use Rattle.fk_turn.specs.declared.policy.Policy.{Policy as GivenPolicy};
@@ -259,7 +260,8 @@ impl Daemon {
         requires rests { let at = scene_by H.Disk K.Sink in
             RestsSomehow (at self.old host.old log.old out.old) }
         requires ready { IsReadyFor draft self.old }
-        requires next { MayFollow self.old.book.changes (OpenChange draft.item) }
+        requires next { MayMake self.old.book.changes (OpenChange draft.item) }
+        requires stamp { (floor_of self.old.book.changes ≤ draft.item.stamp) × (draft.item.stamp ≤ greatest_stamp) }
         ensures { let at = scene_by H.Disk K.Sink in
             (policy : GivenPolicy) (place : Place) (datagram : List ℕ) (grant : GivenGrant) → AtRest policy.conf.now (at self.old host.old log.old out.old) place
             → IsGrantedBy policy place.ledger moment source datagram grant → IsDraftOf policy place.ledger moment datagram grant draft → stanza ≡ grant.stanza

@@ -5,6 +5,7 @@ ghost use Rattle.fk_admit.specs.AdmitFault.{IsAdmitFault};
 ghost use Rattle.fk_admit.specs.Arrival.{arrival};
 ghost use Rattle.fk_base.specs.CommandWords.{AreCommandWords};
 ghost use Rattle.fk_trace.specs.Ledger.{is_seen};
+ghost use Rattle.fk_ledger.specs.Payloads.{greatest_stamp};
 ghost use Rattle.fk_turn.specs.Parts.{IsGrantedBy, IsRefusedBy};
 ghost use Rattle.fk_turn.specs.Rules.{permit_of, rules_by, why_of};
 
@@ -27,8 +28,8 @@ pub(crate) enum Decision {
     Granted(Grant),
 }
 
-/// Tests a datagram in the order of the refusals: its shape, whether it is recorded, and what the stanzas say of it. No memory is
-/// asked for before the first two.
+/// Tests a datagram in the order of the refusals: its shape, whether it is recorded, what the stanzas say of it, and the floor. No
+/// memory is asked for before the first two.
 pub(crate) fn decide(
     alloc: Global,
     policy: &Policy<'_>,
@@ -51,6 +52,7 @@ pub(crate) fn decide(
         return Ok(Decision::Refused(LogWhy::Replay));
     }
     match ask_stanzas::<Brand>(alloc, policy, moment, source, bytes, Blank::new(1)) {
+        Ok(grant) if grant.stamp < ledger.floor() => Ok(Decision::Refused(LogWhy::Stale)),
         Ok(grant) => Ok(Decision::Granted(grant)),
         Err(AdmitFault::Refused(refusal)) => Ok(Decision::Refused(why_of(refusal))),
         Err(AdmitFault::NoMemory) => Err(NoMemory),
@@ -73,6 +75,7 @@ fn ask_stanzas<L: Counts>(
         (λ grant. admitted policy.now.access.now (arrival policy.now.conf.now.age source bytes.now moment) ≡ Ok grant)
         (IsAdmitFault policy.now.access.now (arrival policy.now.conf.now.age source bytes.now moment)) }
     ensures stanza { IfOk result (λ grant. (1 ≤ grant.stanza) × (grant.stanza ≤ length policy.now.access.now)) }
+    ensures stamp { IfOk result (λ grant. grant.stamp ≤ greatest_stamp) }
 {
     let mut steps: Steps<L> = Steps::new(blank);
     admit(
@@ -132,7 +135,7 @@ pub(crate) fn make_draft(
 ) -> Result<Draft, NoMemory>
     requires { (1 ≤ grant.now.stanza) × (grant.now.stanza ≤ length policy.now.access.now) }
     ensures item { IfOk result (λ draft. let permit = permit_of policy.now.access.now grant.now in
-        draft.item ≡ record { id = id; digest = digest; moment = moment; due = moment + permit.seconds; ip = permit.ip; pair = permit.pair; close = permit.closing }) }
+        draft.item ≡ record { id = id; digest = digest; stamp = permit.stamp; moment = moment; due = moment + permit.seconds; ip = permit.ip; pair = permit.pair; close = permit.closing }) }
     ensures opening { IfOk result (λ draft. draft.opening ≡ (permit_of policy.now.access.now grant.now).opening) }
     ensures words { IfOk result (λ draft. AreCommandWords draft.item.close × AreCommandWords draft.opening) }
 {
@@ -142,6 +145,7 @@ pub(crate) fn make_draft(
     let item = OpenRecord {
         id,
         digest,
+        stamp: grant.stamp,
         moment,
         due: moment.get() + u64::from(grant.seconds),
         ip: grant.ip,

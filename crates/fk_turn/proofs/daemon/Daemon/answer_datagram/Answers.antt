@@ -1,12 +1,13 @@
-use Rattle.std.proofs.Common.{◌≡◌, List, Result, Ok, inl, inr, refl, sym, ap, subst, ◌∙◌}
+use Rattle.std.proofs.Common.{◌≡◌, ◌≤◌, List, Result, Ok, inl, inr, refl, sym, ap, subst, ◌∙◌}
 use Rattle.fk_trace.specs.declared.refusal.LogWhy.{LogWhy}
 use Rattle.fk_trace.specs.declared.change.Change.{Change}
 use Rattle.fk_trace.specs.declared.change.Change.TheVariants.{Open as OpenChange}
 use Rattle.fk_trace.specs.Decision.Answer.{Refuses}
-use Rattle.fk_trace.specs.Ledger.{is_seen, MayFollow}
+use Rattle.fk_trace.specs.Ledger.{is_seen, floor_of, MayMake}
 use Rattle.fk_base.specs.declared.memory.NoMemory.{NoMemory}
 use Rattle.fk_run.specs.Place.{Place}
 use Rattle.fk_log.specs.Writing.{Output}
+use Rattle.fk_ledger.specs.Payloads.{greatest_stamp}
 use Rattle.fk_child.specs.View.{View, view_of}
 use Rattle.fk_child.proofs.Images.{adds-none}
 use Rattle.fk_turn.specs.declared.decision.Decision.{Decision}
@@ -14,7 +15,7 @@ use Rattle.fk_turn.specs.Daemon.{DaemonState, Scene, scene, AtRest, scene_by, ou
 use Rattle.fk_turn.specs.Parts.{Answers, AnswersWhole, IsDraftOf, IsGrantedBy, IsRefusedBy, answer_at, datagram_turn}
 use Rattle.fk_turn.specs.Rules.{permit_of, rules_by}
 use Rattle.fk_turn.specs.contracts.daemon.Daemon.{the_view}
-use Rattle.fk_turn.proofs.Opening.{refuses, wanting, like-rests, wants-before, draft-follows, answers-from}
+use Rattle.fk_turn.proofs.Opening.{refuses, wanting, like-rests, wants-before, draft-follows, draft-stamp, answers-from}
 use Rattle.fk_turn.proofs.daemon.Daemon.answer_datagram.Goals as goal
 
 abbrev answered : Decision → Result Decision NoMemory
@@ -92,8 +93,17 @@ open-requires-clause-next g c =
     let granted : IsGrantedBy c.args.policy.now c.args.self.now.book.changes c.args.moment c.args.source c.args.bytes.now c.in-Granted.grant =
     subst (λ (d : DaemonState). IsGrantedBy c.args.policy.now d.book.changes c.args.moment c.args.source c.args.bytes.now c.in-Granted.grant) c.self.view_is
     (c.in_ok-why.ensures.granted c.in-Granted.grant (ap answered c.in-Granted.is)) in
-    subst (λ (cs : List Change). MayFollow cs (OpenChange c.in_ok-draft-in-Granted.draft.item)) (ap (λ (d : DaemonState). d.book.changes) (sym c.in_ok-draft-in-Granted.ensures.rest))
+    subst (λ (cs : List Change). MayMake cs (OpenChange c.in_ok-draft-in-Granted.draft.item)) (ap (λ (d : DaemonState). d.book.changes) (sym c.in_ok-draft-in-Granted.ensures.rest))
     (draft-follows c.args.policy.now c.args.self.now.book.changes c.args.moment c.args.source c.args.bytes.now c.in-Granted.grant c.in_ok-draft-in-Granted.draft granted draft)
+
+pub open-requires-clause-stamp : goal.open-requires-clause-stamp
+open-requires-clause-stamp g c =
+    let draft : IsDraftOf c.args.policy.now c.args.self.now.book.changes c.args.moment c.args.bytes.now c.in-Granted.grant c.in_ok-draft-in-Granted.draft = c.in_ok-draft-in-Granted.ensures.draft in
+    let granted : IsGrantedBy c.args.policy.now c.args.self.now.book.changes c.args.moment c.args.source c.args.bytes.now c.in-Granted.grant =
+    subst (λ (d : DaemonState). IsGrantedBy c.args.policy.now d.book.changes c.args.moment c.args.source c.args.bytes.now c.in-Granted.grant) c.self.view_is
+    (c.in_ok-why.ensures.granted c.in-Granted.grant (ap answered c.in-Granted.is)) in
+    subst (λ (cs : List Change). (floor_of cs ≤ c.in_ok-draft-in-Granted.draft.item.stamp) × (c.in_ok-draft-in-Granted.draft.item.stamp ≤ greatest_stamp)) (ap (λ (d : DaemonState). d.book.changes) (sym c.in_ok-draft-in-Granted.ensures.rest))
+    (draft-stamp c.args.policy.now c.args.self.now.book.changes c.args.moment c.args.source c.args.bytes.now c.in-Granted.grant c.in_ok-draft-in-Granted.draft granted draft)
 
 pub returns-in_ok-draft-in-Granted : goal.returns-in_ok-draft-in-Granted
 returns-in_ok-draft-in-Granted g c =
