@@ -199,7 +199,7 @@ int socket(int domain, int type, int protocol) {
 }
 int bind(int fd, const struct sockaddr *address, socklen_t size) { FAILS(BIND, fd) return SYSTEM(bind, fd, address, size); }
 int setsockopt(int fd, int level, int name, const void *value, socklen_t size) {
-    const char *target = name == SO_RCVTIMEO ? "timeout" : name == SO_RCVBUF && *(const int *)value >= 1 << 30 ? "room" : "other";
+    const char *target = name == SO_RCVTIMEO ? "timeout" : name == SO_RCVBUF && size >= 4 && *(const int *)value >= 1 << 30 ? "room" : "other";
     if (active && meant(SETSOCKOPT, target)) { errno = fault_error; return -1; }
     if (active && level == SOL_SOCKET && name == SO_RCVTIMEO && size >= sizeof(struct timeval)) {
         struct timeval wait = *(const struct timeval *)value;
