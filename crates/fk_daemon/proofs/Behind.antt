@@ -8,6 +8,7 @@ use Rattle.fk_trace.specs.declared.change.Change.{Change}
 use Rattle.fk_trace.specs.Trace.{Item}
 use Rattle.fk_trace.specs.Ledger.{after}
 use Rattle.fk_trace.specs.Decision.{FeedTurn, Rules, answer, recorded_by}
+use Rattle.fk_trace.proofs.Ledgers.{after-append}
 use Rattle.fk_trace.proofs.Splits.{cases_joined, none_before}
 use Rattle.fk_run.specs.Place.{Place}
 use Rattle.fk_run.specs.Turn.{TakenTurn, WholeTurn, CutTurn, after_turn, after_turns}
@@ -42,8 +43,8 @@ place-push place [] last = refl
 place-push place (first ∷ turns) last = place-push (after_turn place first) turns last
 
 pub ledger-behind : (place : Place) (turns : List TakenTurn) → (after_turns place turns).ledger ≡ after place.ledger (changes_in turns)
-ledger-behind place [] = sym (append-nil place.ledger)
-ledger-behind place (first ∷ turns) = ledger-behind (after_turn place first) turns ∙ append_assoc place.ledger first.changes (changes_in turns)
+ledger-behind place [] = refl
+ledger-behind place (first ∷ turns) = ledger-behind (after_turn place first) turns ∙ sym (after-append place.ledger first.changes (changes_in turns))
 
 pub number-behind : (place : Place) (turns : List TakenTurn) → (after_turns place turns).number ≡ place.number + length turns
 number-behind place [] = omega arith

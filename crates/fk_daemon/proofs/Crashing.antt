@@ -12,6 +12,7 @@ use Rattle.fk_trace.specs.Ledger.{after, opens, dones}
 use Rattle.fk_trace.specs.Decision.{FeedTurn, Rules}
 use Rattle.fk_trace.specs.Settled.{EndedCleanly}
 use Rattle.fk_run.specs.Headline.{opens_attempted}
+use Rattle.fk_trace.proofs.Ledgers.{after-append}
 use Rattle.fk_trace.proofs.Settled.{past_after-append}
 use Rattle.fk_trace.proofs.Splits.{AllPairs-front, recursion-behind}
 use Rattle.fk_run.specs.Place.{entry}
@@ -203,11 +204,11 @@ module _ (rules : Rules) (ledger : List Change) (faults : ℕ) where
       (numbered : AreNumbered (past_after [] (items_in (turns ++ taken ∷ [])))) (unfailed : AllByRecursion (λ item. item.faults ≡ faults) (items_in (turns ++ taken ∷ []))) where
     module _ (p q r : ℕ → Areas → Type 0) (x y z : Told) (before : AddsItems (items_in turns) x y) (here : AddsItems taken.items y z)
         (first : Moments (HoldsCrash (run_at AtLimit turns) (changes_in turns)) (length (changes_in turns)) p q x y)
-        (second : Moments (HoldsFront taken.items (ledger ++ changes_in turns) tried) (made_of whole tried) q r y z) where
+        (second : Moments (HoldsFront taken.items (after ledger (changes_in turns)) tried) (made_of whole tried) q r y z) where
       items-both : AddsItems (items_in (turns ++ taken ∷ [])) x z
       items-both = subst (λ (items : List Item). AddsItems items x z) (sym (items-push turns taken)) (items-then (items_in turns) taken.items x y z before first.later here second.later)
 
-      holds-later : (least k : ℕ) (image : Areas) → y.moments ≤ k → HoldsFront taken.items (ledger ++ changes_in turns) tried least k image
+      holds-later : (least k : ℕ) (image : Areas) → y.moments ≤ k → HoldsFront taken.items (after ledger (changes_in turns)) tried least k image
           → HoldsCrash (run_at ending (turns ++ taken ∷ [])) (changes_in turns ++ tried) (length (changes_in turns) + least) k image
       holds-later least k image low front = record {
         count = length (changes_in turns) + front.count;
@@ -216,7 +217,7 @@ module _ (rules : Rules) (ledger : List Change) (faults : ℕ) where
             (recursion-weaker (λ (item : Item). (x.moments < item.moments) × (item.moments ≤ y.moments)) (λ item. item.moments ≤ k) (λ item h. let u = h.1 in omega (arith, u, low)) (items_in turns) before.placed)
             cut front.cut here.rising items-both.rising unfailed numbered;
         holds = subst (λ (held : List Change). HoldsState held image)
-            (append_assoc ledger (changes_in turns) (take front.count tried) ∙ ap (λ (more : List Change). ledger ++ more) (sym (take-append-add (changes_in turns) tried front.count))) front.holds;
+            (sym (ap (after ledger) (take-append-add (changes_in turns) tried front.count) ∙ after-append ledger (changes_in turns) (take front.count tried))) front.holds;
       }
 
       holds-earlier : (k : ℕ) (image : Areas) → k ≤ y.moments → HoldsCrash (run_at AtLimit turns) (changes_in turns) 0 k image
@@ -226,7 +227,7 @@ module _ (rules : Rules) (ledger : List Change) (faults : ℕ) where
         enough = omega arith;
         left = crash-earlier ending AtLimit turns taken tried k crash.count
             (recursion-weaker (λ (item : Item). (y.moments < item.moments) × (item.moments ≤ z.moments)) (λ item. k < item.moments) (λ item h. let u = h.0 in omega (arith, u, low)) taken.items here.placed) crash.left;
-        holds = subst (λ (more : List Change). HoldsState (ledger ++ more) image) (sym (take-within crash.count (changes_in turns) tried)) crash.holds;
+        holds = subst (λ (more : List Change). HoldsState (after ledger more) image) (sym (take-within crash.count (changes_in turns) tried)) crash.holds;
       }
 
       holds-weaker : (low high k : ℕ) (image : Areas) → low ≤ high → HoldsCrash (run_at ending (turns ++ taken ∷ [])) (changes_in turns ++ tried) high k image
@@ -249,7 +250,7 @@ module _ (rules : Rules) (ledger : List Change) (faults : ℕ) where
     turns-told : (least : ℕ) → least ≤ length (changes_in turns) + made_of whole tried → (p q r : ℕ → Areas → Type 0) (s t u : Option Told)
         → IfTold s t (AddsItems (items_in turns)) → IfTold t u (AddsItems taken.items)
         → IfTold s t (Moments (HoldsCrash (run_at AtLimit turns) (changes_in turns)) (length (changes_in turns)) p q)
-        → IfTold t u (Moments (HoldsFront taken.items (ledger ++ changes_in turns) tried) (made_of whole tried) q r)
+        → IfTold t u (Moments (HoldsFront taken.items (after ledger (changes_in turns)) tried) (made_of whole tried) q r)
         → IfTold s u (AddsItems (items_in (turns ++ taken ∷ []))) × IfTold s u (Moments (HoldsCrash (run_at ending (turns ++ taken ∷ [])) (changes_in turns ++ tried)) least p r)
     turns-told least l p q r s t None before here first second = (tt, tt)
     turns-told least l p q r s None (Some z) before here first second = absurd here
@@ -266,7 +267,7 @@ module _ (rules : Rules) (ledger : List Change) (faults : ℕ) where
         record {
           trace = both.0;
           moments = both.1;
-          others = others-told (HoldsCrash (run_at AtLimit turns) (changes_in turns)) (HoldsFront taken.items (ledger ++ changes_in turns) tried) (length (changes_in turns)) (made_of whole tried)
+          others = others-told (HoldsCrash (run_at AtLimit turns) (changes_in turns)) (HoldsFront taken.items (after ledger (changes_in turns)) tried) (length (changes_in turns)) (made_of whole tried)
               old.images mid.images new.images old.told mid.told new.told so_far.moments next.moments so_far.others next.others;
         }
 
@@ -277,7 +278,7 @@ module _ (rules : Rules) (ledger : List Change) (faults : ℕ) where
       count = 0;
       enough = omega arith;
       left = crash-none (run_at ending []) [] k tt;
-      holds = subst (λ (cs : List Change). HoldsState (ledger ++ cs) image) (take_all front.count [] (omega arith)) front.holds;
+      holds = subst (λ (cs : List Change). HoldsState (after ledger cs) image) (take_all front.count [] (omega arith)) front.holds;
     }
 
     quiet-crash : Moments (HoldsCrash (run_at ending []) []) 0 old new x y
@@ -404,7 +405,7 @@ module _ (settles : SettlesCleanly) (once : AttemptsOnce) (run : Run) (tried : L
                   enough = omega arith;
                   left = is-left k 0 (crash-none run tried k
                       (recursion-weaker (λ (item : Item). (y.moments < item.moments) × (item.moments ≤ z.moments)) (λ item. k < item.moments) (λ item h. let u = h.0 in omega (arith, u, before)) (trace_of run) items.placed));
-                  holds = subst (λ (cs : List Change). HoldsState (run.ledger ++ cs) image) (take_all front.0 [] (omega arith)) front.1;
+                  holds = subst (λ (cs : List Change). HoldsState (after run.ledger cs) image) (take_all front.0 [] (omega arith)) front.1;
                 }
           ];
           last = λ image now. holds-run (length (changes_of run)) z.moments image (moments.last image now);

@@ -175,6 +175,7 @@ module _ (policy : Policy) (place : Place) (moment : ℕ) (source : Ip4) (datagr
       pub awaits-open : (id : ℕ) → id ≡ item.id → (KeepsLedger book.changes h1.told h1.images) → AwaitsOpen id item.due item place (crew_host d.crew h1)
       awaits-open id same keeps = record {
         numbered = sym same;
+        next = ap (λ (x : OpenRecord). x.id) made;
         until = refl;
         tied = subst (λ (a : Above). IsTied d.crew a place) (sym above) rest.stands.stands.tied;
         keeps = subst (λ (cs : List Change). KeepsLedger cs h1.told h1.images) changes-are keeps;

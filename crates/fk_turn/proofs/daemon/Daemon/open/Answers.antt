@@ -8,7 +8,7 @@ use Rattle.fk_trace.specs.declared.refusal.LogWhy.TheVariants.{Full}
 use Rattle.fk_base.specs.declared.purpose.Purpose.TheVariants.{Open}
 use Rattle.fk_trace.specs.declared.change.Change.{Change}
 use Rattle.fk_trace.specs.declared.change.Change.TheVariants.{Open as OpenChange}
-use Rattle.fk_trace.specs.Ledger.{after}
+use Rattle.fk_trace.specs.Ledger.{next_id, after}
 use Rattle.fk_trace.specs.Attempts.{IsAttempt}
 use Rattle.fk_host.specs.Disk.{Above}
 use Rattle.fk_ledger.specs.Holds.{KeepsLedger}
@@ -85,6 +85,7 @@ start_open-requires-clause-awaits g c =
       rests.1.0,
       record {
         numbered = sym c.in-Ok.ensures.owed;
+        next = c.requires.next.0 ∙ ap (λ (s : DaemonState). next_id s.book.changes) (sym c.self.view_is) ∙ ap next_id rests.1.1.stands.changes;
         until = refl;
         tied = subst (λ (a : Above). IsTied d.crew a rests.1.0) (sym c.in-Ok.ensures.host.rest) stands.tied;
         keeps = subst (λ (cs : List Change). KeepsLedger cs (g.H.Disk.told c.record.new.disk) (g.H.Disk.may_leave c.record.new.disk))
