@@ -13,18 +13,16 @@ use Rattle.fk_run.specs.Planned.{planned_turn}
 use Rattle.fk_run.specs.Run.Ending.{AtWantOfMemory}
 use Rattle.fk_host.specs.Count.{counted}
 use Rattle.fk_host.specs.Disk.{IfTold}
-use Rattle.fk_log.specs.Line.{Line}
 use Rattle.fk_log.specs.Log.{RefusalLine, turn_lines, MayTellAt}
 use Rattle.fk_log.specs.Log.RefusalLine.{Told, Untold}
 use Rattle.fk_log.specs.Writing.{Logs}
-use Rattle.fk_conf.specs.declared.conf.Conf.{Conf}
 use Rattle.fk_ledger.specs.Book.{live_ids}
 use Rattle.fk_child.specs.View.{MakesCalls, Adds}
 use Rattle.fk_turn.specs.declared.feed_turn.FeedTurn.{FeedTurn as GivenTurn}
 use Rattle.fk_turn.specs.declared.policy.Policy.{Policy}
 use Rattle.fk_turn.specs.declared.turn_err.TurnErr.{TurnErr}
 use Rattle.fk_turn.specs.declared.turn_err.TurnErr.TheVariants.{Disk, NoMemory}
-use Rattle.fk_turn.specs.Daemon.{DaemonState, Scene, DaemonStands, AtRest}
+use Rattle.fk_turn.specs.Daemon.{DaemonState, Scene, AtRest}
 use Rattle.fk_turn.specs.Rules.{rules_by, turn_of}
 use Rattle.fk_turn.specs.Wanting.{WantsMemoryAt}
 
