@@ -5,6 +5,7 @@ mod PayloadLaws
 mod RecordReads
 mod EntryLists
 mod RoomLaws
+mod Rows
 mod OpeningLaws
 pub mod LedgerLaws
 pub mod StretchLaws
