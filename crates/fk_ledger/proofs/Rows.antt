@@ -1,5 +1,5 @@
 -- Worked rows: the bytes of a record and of a floor, and how many a ledger uses and needs.
-use Rattle.std.proofs.Common.{◌≡◌, ℕ, List, [], ◌∷◌, ◌++◌, length, take, drop, replicate, Some, None, refl}
+use Rattle.std.proofs.Common.{◌≡◌, ℕ, List, [], ◌∷◌, ◌++◌, take, drop, replicate, Some, None, refl, arith}
 use Rattle.fk_base.specs.declared.pair.Proto.TheVariants.{Tcp}
 use Rattle.fk_trace.specs.declared.change.OpenRecord.{OpenRecord}
 use Rattle.fk_trace.specs.declared.change.Change.{Change}
@@ -18,7 +18,7 @@ recorded id digest = record {
   moment = 1700000000;
   due = 1700000030;
   ip = record { 0 = 167772167 };
-  pair = record { proto = Tcp; port = 22 };
+  pair = record { proto = Tcp; port = 22; has_port = omega arith };
   close = (47 ∷ 98 ∷ 105 ∷ 110 ∷ 47 ∷ 99 ∷ []) ∷ (49 ∷ 48 ∷ 46 ∷ 48 ∷ 46 ∷ 48 ∷ 46 ∷ 55 ∷ []) ∷ [];
 }
 
