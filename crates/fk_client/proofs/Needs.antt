@@ -77,7 +77,7 @@ given-same f x y m n files names =
     ∙ sym (then-plain f (stanza_named n y))
 
 from-same : {X : Type 0} (f : Plain → Option X) (x y : List RcStanza) (a b : SendWords) → map plain x ≡ map plain y → a.name ≡ b.name
-    → from_file (λ s. f (plain s)) x a ≡ from_file (λ s. f (plain s)) y b
+    → from_file (λ s. f (plain s)) x a.name ≡ from_file (λ s. f (plain s)) y b.name
 from-same f x y a b files names =
     ap (λ o. option_or o (from_stanza (λ s. f (plain s)) x (codes "default"))) (given-same f x y a.name b.name files names)
     ∙ ap (λ o. option_or (from_stanza (λ s. f (plain s)) y b.name) o) (given-same f x y (codes "default") (codes "default") files refl)
@@ -90,18 +90,18 @@ named-same x y m n files names =
 
 server-same : (x y : List RcStanza) (a b : SendWords) → map plain x ≡ map plain y → SaysSame a b → server_of x a ≡ server_of y b
 server-same x y a b files same =
-    ap (λ o. option_or o (option_or (from_file (λ s. s.server) x a) (if a.print then Some [] else None))) same.server
+    ap (λ o. option_or o (option_or (from_file (λ s. s.server) x a.name) (if a.print then Some [] else None))) same.server
     ∙ ap (λ o. option_or b.server (option_or o (if a.print then Some [] else None))) (from-same (λ p. p.server) x y a b files same.name)
-    ∙ ap (λ (shown : Bool). option_or b.server (option_or (from_file (λ s. s.server) y b) (if shown then Some [] else None))) same.print
+    ∙ ap (λ (shown : Bool). option_or b.server (option_or (from_file (λ s. s.server) y b.name) (if shown then Some [] else None))) same.print
 
 pairs-same : (x y : List RcStanza) (a b : SendWords) → map plain x ≡ map plain y → SaysSame a b → pairs_of x a ≡ pairs_of y b
 pairs-same x y a b files same =
-    ap (λ o. option_or o (from_file (λ s. s.pairs) x a)) same.pairs
+    ap (λ o. option_or o (from_file (λ s. s.pairs) x a.name)) same.pairs
     ∙ ap (λ o. option_or b.pairs o) (from-same (λ p. p.pairs) x y a b files same.name)
 
 address-same : (x y : List RcStanza) (a b : SendWords) → map plain x ≡ map plain y → SaysSame a b → address_of x a ≡ address_of y b
 address-same x y a b files same =
-    ap (λ o. option_or o (from_file (λ s. s.allow) x a)) same.allow
+    ap (λ o. option_or o (from_file (λ s. s.allow) x a.name)) same.allow
     ∙ ap (λ o. option_or b.allow o) (from-same (λ p. p.allow) x y a b files same.name)
 
 first-same : (a b c d e f a' b' c' d' e' f' : Bool) → a ≡ a' → b ≡ b' → c ≡ c' → d ≡ d' → e ≡ e' → f ≡ f' →

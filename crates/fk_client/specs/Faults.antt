@@ -3,8 +3,10 @@ use Rattle.std.specs.Prelude.{ℕ, List, Option, Some}
 use Rattle.fk_base.specs.declared.status.Status.{Status}
 use Rattle.fk_base.specs.declared.status.Status.TheVariants as status
 use Rattle.fk_log.specs.Printing.{SinkView}
-use Rattle.fk_program.specs.Faults.{Fault as CommonFault, fault_status as common_status, fault_text as common_text}
+use Rattle.fk_program.specs.Faults.{Fault as CommonFault, fault_of as common_fault_of, fault_status as common_status, fault_text as common_text}
 use Rattle.fk_program.specs.Telling.{Stops}
+use Rattle.fk_client.specs.declared.refusal.Refusal.{Refusal}
+use Rattle.fk_client.specs.declared.refusal.Refusal.TheVariants as refusal
 use Rattle.fk_client.specs.ClientText.{need_text, entropy_text, link_text}
 
 pub data Fault : Type 0 where
@@ -31,3 +33,10 @@ fault_text LinkFails = Some link_text
 -- the client came to nothing for this fault
 abbrev pub Tells : Fault → SinkView → SinkView → Status → Type 0
 Tells fault old new answer = Stops (fault_status fault) (fault_text fault) old new answer
+
+-- the fault that a refusal tells
+abbrev pub fault_of : Refusal → Fault
+fault_of (refusal.Common common) = Common (common_fault_of common)
+fault_of (refusal.Need name what) = LacksSetting name.now what.now
+fault_of refusal.Entropy = EntropyFails
+fault_of refusal.Link = LinkFails

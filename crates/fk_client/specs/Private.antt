@@ -1,21 +1,12 @@
 -- What the contracts of this crate's private functions speak of. No public contract cites it, so no caller has to believe it.
 use Rattle.std.specs.Prelude.{◌≡◌, ℕ, List}
-use Rattle.fk_client.specs.declared.refusal.Refusal.{Refusal}
-use Rattle.fk_client.specs.declared.refusal.Refusal.TheVariants as refusal
 use Rattle.fk_client.specs.Faults.{Fault}
-use Rattle.fk_client.specs.Faults.Fault.{Common, LacksSetting, EntropyFails, LinkFails}
+use Rattle.fk_client.specs.Faults.Fault.{Common, EntropyFails}
 use Rattle.fk_client.specs.declared.sent.Packet.{Packet}
 use Rattle.fk_client.specs.declared.settled.Settings.{Settings}
 use Rattle.fk_client.specs.Outside.{EntropyView, undrawn}
 use Rattle.fk_client.specs.Running.{Draws, IsPacket}
-use Rattle.fk_program.specs.Faults.{fault_of as common_fault_of}
 use Rattle.fk_program.specs.Faults.Fault.{WantsMemory}
-
-abbrev pub fault_of : Refusal → Fault
-fault_of (refusal.Common common) = Common (common_fault_of common)
-fault_of (refusal.Need name what) = LacksSetting name.now what.now
-fault_of refusal.Entropy = EntropyFails
-fault_of refusal.Link = LinkFails
 
 -- bytes were drawn, and memory was wanting
 abbrev pub DrawsInVain : ℕ → Fault → EntropyView → EntropyView → Type 0

@@ -18,6 +18,7 @@ use Rattle.fk_words.specs.declared.word_fault.WordFault.{WordFault}
 use Rattle.fk_client.specs.declared.help.TheConstants.{HELP, VERSION}
 use Rattle.fk_client.specs.declared.need_fault.NeedFault.{NeedFault}
 use Rattle.fk_client.specs.declared.sent.Packet.{Packet}
+use Rattle.fk_client.specs.declared.sealed.Sealing.{Sealing}
 use Rattle.fk_client.specs.declared.settled.Settings.{Settings}
 use Rattle.fk_client.specs.ClientText.{keys_text, need_name, sent_text, shown_text}
 use Rattle.fk_client.specs.Faults.{Fault, Tells}
@@ -28,7 +29,7 @@ use Rattle.fk_program.specs.Faults.Fault.{WrongFile, WantsMemory}
 use Rattle.fk_program.specs.Files.{FailsFile, FilesView, HasText}
 use Rattle.fk_program.specs.Telling.{Shows}
 use Rattle.fk_client.specs.Sent.{IsSent}
-use Rattle.fk_client.specs.Settle.{GivesSettings, need_fault}
+use Rattle.fk_client.specs.Settle.{GivesSealing, GivesSettings, need_fault, sealing_fault}
 
 -- the file of this name has these stanzas
 pub record HasStanzas (name : List ℕ) (files : FilesView) (stanzas : List RcStanza) : Type 0 where
@@ -59,6 +60,26 @@ abbrev pub FindsNoSettings : SendWords → Fault → FilesView → FilesView →
 FindsNoSettings send (Common fault) old new = FailsFile (rc_test send.file) send.file fault old new
 FindsNoSettings send (LacksSetting named what) old new = (named ≡ send.file) × (new ≡ old) × LacksNeed send old what
 FindsNoSettings send _ old new = ⊥
+
+-- the file of this name has a stanza of that name which seals so
+pub record HasSealing (file_name name : List ℕ) (files : FilesView) (sealing : Sealing) : Type 0 where
+  pub stanzas : List RcStanza
+  pub read : HasStanzas file_name files stanzas
+  pub gives : GivesSealing stanzas name sealing
+
+-- the first thing that the file of this name lacks for sealing by the stanza of that name
+pub record LacksSealing (file_name name : List ℕ) (files : FilesView) (what : List ℕ) : Type 0 where
+  pub stanzas : List RcStanza
+  pub read : HasStanzas file_name files stanzas
+  pub fault : NeedFault
+  pub first : sealing_fault stanzas name ≡ Some fault
+  pub named : what ≡ need_name fault
+
+-- why there is no sealing: the file has no stanzas, or something is needed that it does not give
+abbrev pub FindsNoSealing : (file_name name : List ℕ) → Fault → FilesView → FilesView → Type 0
+FindsNoSealing file_name name (Common fault) old new = FailsFile (rc_test file_name) file_name fault old new
+FindsNoSealing file_name name (LacksSetting named what) old new = (named ≡ file_name) × (new ≡ old) × LacksSealing file_name name old what
+FindsNoSealing file_name name _ old new = ⊥
 
 -- so many bytes were drawn
 pub record Draws (count : ℕ) (drawn : List ℕ) (old new : EntropyView) : Type 0 where

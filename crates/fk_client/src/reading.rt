@@ -1,12 +1,12 @@
 //! The client's file, read and settled, or why there are no settings.
 ghost use Rattle.std.specs.Prelude.{◌≡◌, MatchResult};
-ghost use Rattle.fk_client.specs.Private.{fault_of};
-ghost use Rattle.fk_client.specs.Running.{FindsNoSettings, HasSettings, HasStanzas, rc_test};
+ghost use Rattle.fk_client.specs.Faults.{fault_of};
+ghost use Rattle.fk_client.specs.Running.{FindsNoSealing, FindsNoSettings, HasSealing, HasSettings, HasStanzas, rc_test};
 ghost use Rattle.fk_program.specs.Faults.{fault_of as file_fault_of};
 ghost use Rattle.fk_program.specs.Files.{FailsFile, files_by};
 
 use crate::refusal::{Refusal, need_name};
-use crate::{NeedFault, Settings, settings};
+use crate::{NeedFault, Sealing, Settings, find_sealing, settings};
 use fk_conf::{ConfErr, RcFile, conf_fault_name, read_rc};
 use fk_host::Files;
 use fk_program::read_text;
@@ -33,6 +33,31 @@ pub(crate) fn settings_by<'a, F: Files>(
         Err(NeedFault::NoMemory) => Err(Refusal::Common(fk_program::Refusal::NoMemory)),
         Err(fault) => Err(Refusal::Need {
             name,
+            what: need_name(fault),
+        }),
+    }
+}
+
+/// What the stanza of this name, in the file of that name, seals by.
+pub fn sealing_by<'a, F: Files>(
+    alloc: Global,
+    file_name: &'a [u8],
+    name: &[u8],
+    files: &mut F,
+) -> Result<Sealing, Refusal<'a>>
+    ensures { let at = files_by F.Files in MatchResult result
+        (λ sealing. HasSealing file_name.now name.now (at files.old) sealing × (at files.new ≡ at files.old))
+        (λ refusal. FindsNoSealing file_name.now name.now (fault_of refusal) (at files.old) (at files.new)) }
+{
+    let file = match stanzas_of(alloc, file_name, files) {
+        Ok(file) => file,
+        Err(refusal) => return Err(Refusal::Common(refusal)),
+    };
+    match find_sealing(alloc, &file, name) {
+        Ok(found) => Ok(found),
+        Err(NeedFault::NoMemory) => Err(Refusal::Common(fk_program::Refusal::NoMemory)),
+        Err(fault) => Err(Refusal::Need {
+            name: file_name,
             what: need_name(fault),
         }),
     }

@@ -3,8 +3,7 @@ ghost use Rattle.std.specs.Prelude.{◌≡◌, ◌∷◌, ◌++◌, []};
 ghost use Rattle.std.specs.List.{flat_map};
 ghost use Rattle.fk_log.specs.Printing.{sink_by};
 ghost use Rattle.fk_client.specs.ClientText.{entropy_text, link_text, need_name, need_text};
-ghost use Rattle.fk_client.specs.Faults.{Tells};
-ghost use Rattle.fk_client.specs.Private.{fault_of};
+ghost use Rattle.fk_client.specs.Faults.{Tells, fault_of};
 
 use crate::NeedFault;
 use crate::printing::say_line;
@@ -13,7 +12,7 @@ use fk_host::Sink;
 
 /// Why a client comes to nothing.
 #[derive(Clone, Copy)]
-pub(crate) enum Refusal<'a> {
+pub enum Refusal<'a> {
     /// Of the words or the file, or for want of memory.
     Common(fk_program::Refusal<'a>),
     /// What is needed and the file of this name does not give.
@@ -38,7 +37,7 @@ pub(crate) fn need_name(fault: NeedFault) -> &'static [u8]
 }
 
 /// Says the refusal. Where memory is wanting nothing is written.
-pub(crate) fn refuse<K: Sink>(refusal: Refusal<'_>, out: &mut K) -> Status
+pub fn refuse<K: Sink>(refusal: Refusal<'_>, out: &mut K) -> Status
     ensures { let at = sink_by K.Sink in Tells (fault_of refusal.entry) (at out.old) (at out.new) result }
 {
     match refusal {

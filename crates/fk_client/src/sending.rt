@@ -4,7 +4,8 @@ ghost use Rattle.std.specs.List.{flat_map};
 ghost use Rattle.fk_log.specs.Printing.{sink_by};
 ghost use Rattle.fk_client.specs.ClientText.{sent_line};
 ghost use Rattle.fk_client.specs.Outside.{entropy_by, link_by, outside_by};
-ghost use Rattle.fk_client.specs.Private.{DrawsInVain, DrawsPacket, fault_of};
+ghost use Rattle.fk_client.specs.Faults.{fault_of};
+ghost use Rattle.fk_client.specs.Private.{DrawsInVain, DrawsPacket};
 ghost use Rattle.fk_client.specs.Running.{RunsSend, SendsPacket};
 
 use crate::printing::show_line;

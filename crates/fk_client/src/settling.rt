@@ -33,10 +33,10 @@ pub fn settings(alloc: Global, file: &RcFile, words: &SendWords) -> Result<Setti
     let Some(ip) = address_of(file, words) else {
         return Err(NeedFault::NoAllow);
     };
-    let Some(key) = key(file, words) else {
+    let Some(key) = key(file, words.name.as_slice()) else {
         return Err(NeedFault::NoKey);
     };
-    let Some(mac_key) = mac_key(file, words) else {
+    let Some(mac_key) = mac_key(file, words.name.as_slice()) else {
         return Err(NeedFault::NoHmacKey);
     };
     Ok(Settings {
@@ -45,10 +45,10 @@ pub fn settings(alloc: Global, file: &RcFile, words: &SendWords) -> Result<Setti
         ask: ask_of(seconds_of(file, words), ip, pairs)?,
         keys: Keys {
             key: Bytes::copy(alloc, key.as_slice())?,
-            kind: mac_kind(file, words).unwrap_or(HashKind::Sha256),
+            kind: mac_kind(file, words.name.as_slice()).unwrap_or(HashKind::Sha256),
             mac_key: Bytes::copy(alloc, mac_key.as_slice())?,
         },
-        kind: kind(file, words).unwrap_or(HashKind::Sha256),
+        kind: kind(file, words.name.as_slice()).unwrap_or(HashKind::Sha256),
         user: user_of(alloc, file, words)?,
     })
 }
@@ -60,7 +60,7 @@ fn server_of<'a>(file: &'a RcFile, words: &'a SendWords) -> Option<&'a [u8]>
     if let Some(given) = words.server.as_ref() {
         return Some(given.as_slice());
     }
-    if let Some(given) = server(file, words) {
+    if let Some(given) = server(file, words.name.as_slice()) {
         return Some(given.as_slice());
     }
     if words.print { Some(b"") } else { None }
@@ -71,7 +71,7 @@ fn port_of(file: &RcFile, words: &SendWords) -> u16
 {
     match words.port {
         Some(given) => given,
-        None => port(file, words).unwrap_or(DEFAULT_PORT),
+        None => port(file, words.name.as_slice()).unwrap_or(DEFAULT_PORT),
     }
 }
 
@@ -80,7 +80,7 @@ fn pairs_of<'a>(file: &'a RcFile, words: &'a SendWords) -> Option<&'a Pairs>
 {
     match words.pairs.as_ref() {
         Some(given) => Some(given),
-        None => pairs(file, words),
+        None => pairs(file, words.name.as_slice()),
     }
 }
 
@@ -89,7 +89,7 @@ fn address_of(file: &RcFile, words: &SendWords) -> Option<Ip4>
 {
     match words.allow {
         Some(given) => Some(given),
-        None => allow(file, words),
+        None => allow(file, words.name.as_slice()),
     }
 }
 
@@ -99,7 +99,7 @@ fn seconds_of(file: &RcFile, words: &SendWords) -> Option<u32>
 {
     match words.seconds {
         Some(given) => Some(given),
-        None => timeout(file, words),
+        None => timeout(file, words.name.as_slice()),
     }
 }
 
@@ -117,10 +117,10 @@ fn ask_of(seconds: Option<u32>, ip: Ip4, pairs: &Pairs) -> Result<Ask, NoMemory>
 }
 
 fn user_of(alloc: Global, file: &RcFile, words: &SendWords) -> Result<Bytes, NoMemory>
-    ensures user { IfOk result (λ user. user ≡ unwrap_or (from_file (λ stanza. stanza.user) file.now words.now) (codes "fwknop")) }
+    ensures user { IfOk result (λ user. user ≡ unwrap_or (from_file (λ stanza. stanza.user) file.now words.now.name) (codes "fwknop")) }
     ensures right { IfOk result (λ user. is_user user ≡ true) }
 {
-    match user(file, words) {
+    match user(file, words.name.as_slice()) {
         Some(given) => Bytes::copy(alloc, given.as_slice()),
         None => Bytes::copy(alloc, b"fwknop"),
     }

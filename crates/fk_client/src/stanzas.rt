@@ -5,7 +5,6 @@ ghost use Rattle.fk_client.specs.Settle.{from_file, stanza_named};
 
 use fk_base::{Bytes, HashKind, Ip4, Pairs};
 use fk_conf::{RcFile, RcStanza};
-use fk_words::SendWords;
 
 /// The stanza whose values stand in for those that the named one lacks.
 const DEFAULT_NAME: &[u8] = b"default";
@@ -19,95 +18,95 @@ pub(crate) fn find_stanza<'a>(file: &'a RcFile, name: &[u8]) -> Option<&'a RcSta
         .find(|stanza| stanza.name.as_slice() == name)
 }
 
-pub(crate) fn server<'a>(file: &'a RcFile, words: &SendWords) -> Option<&'a Bytes>
-    ensures { option_copied result ≡ from_file (λ stanza. stanza.server) file.now words.now }
+pub(crate) fn server<'a>(file: &'a RcFile, name: &[u8]) -> Option<&'a Bytes>
+    ensures { option_copied result ≡ from_file (λ stanza. stanza.server) file.now name.now }
 {
-    match server_in(find_stanza(file, words.name.as_slice())) {
+    match server_in(find_stanza(file, name)) {
         Some(server) => Some(server),
         None => server_in(find_stanza(file, DEFAULT_NAME)),
     }
 }
 
-pub(crate) fn port(file: &RcFile, words: &SendWords) -> Option<u16>
-    ensures { result ≡ from_file (λ stanza. stanza.port) file.now words.now }
+pub(crate) fn port(file: &RcFile, name: &[u8]) -> Option<u16>
+    ensures { result ≡ from_file (λ stanza. stanza.port) file.now name.now }
 {
-    match port_in(find_stanza(file, words.name.as_slice())) {
+    match port_in(find_stanza(file, name)) {
         Some(port) => Some(port),
         None => port_in(find_stanza(file, DEFAULT_NAME)),
     }
 }
 
-pub(crate) fn pairs<'a>(file: &'a RcFile, words: &SendWords) -> Option<&'a Pairs>
-    ensures { option_copied result ≡ from_file (λ stanza. stanza.pairs) file.now words.now }
+pub(crate) fn pairs<'a>(file: &'a RcFile, name: &[u8]) -> Option<&'a Pairs>
+    ensures { option_copied result ≡ from_file (λ stanza. stanza.pairs) file.now name.now }
 {
-    match pairs_in(find_stanza(file, words.name.as_slice())) {
+    match pairs_in(find_stanza(file, name)) {
         Some(pairs) => Some(pairs),
         None => pairs_in(find_stanza(file, DEFAULT_NAME)),
     }
 }
 
-pub(crate) fn allow(file: &RcFile, words: &SendWords) -> Option<Ip4>
-    ensures { result ≡ from_file (λ stanza. stanza.allow) file.now words.now }
+pub(crate) fn allow(file: &RcFile, name: &[u8]) -> Option<Ip4>
+    ensures { result ≡ from_file (λ stanza. stanza.allow) file.now name.now }
 {
-    match allow_in(find_stanza(file, words.name.as_slice())) {
+    match allow_in(find_stanza(file, name)) {
         Some(allow) => Some(allow),
         None => allow_in(find_stanza(file, DEFAULT_NAME)),
     }
 }
 
-pub(crate) fn key<'a>(file: &'a RcFile, words: &SendWords) -> Option<&'a Bytes>
-    ensures key { option_copied result ≡ from_file (λ stanza. stanza.key) file.now words.now }
+pub(crate) fn key<'a>(file: &'a RcFile, name: &[u8]) -> Option<&'a Bytes>
+    ensures key { option_copied result ≡ from_file (λ stanza. stanza.key) file.now name.now }
     ensures within { IfSome result (λ key. (1 ≤ length key.now) × (length key.now ≤ 128)) }
 {
-    match key_in(find_stanza(file, words.name.as_slice())) {
+    match key_in(find_stanza(file, name)) {
         Some(key) => Some(key),
         None => key_in(find_stanza(file, DEFAULT_NAME)),
     }
 }
 
-pub(crate) fn mac_key<'a>(file: &'a RcFile, words: &SendWords) -> Option<&'a Bytes>
-    ensures key { option_copied result ≡ from_file (λ stanza. stanza.mac_key) file.now words.now }
+pub(crate) fn mac_key<'a>(file: &'a RcFile, name: &[u8]) -> Option<&'a Bytes>
+    ensures key { option_copied result ≡ from_file (λ stanza. stanza.mac_key) file.now name.now }
     ensures within { IfSome result (λ key. (1 ≤ length key.now) × (length key.now ≤ 128)) }
 {
-    match mac_key_in(find_stanza(file, words.name.as_slice())) {
+    match mac_key_in(find_stanza(file, name)) {
         Some(key) => Some(key),
         None => mac_key_in(find_stanza(file, DEFAULT_NAME)),
     }
 }
 
-pub(crate) fn mac_kind(file: &RcFile, words: &SendWords) -> Option<HashKind>
-    ensures { result ≡ from_file (λ stanza. stanza.mac_kind) file.now words.now }
+pub(crate) fn mac_kind(file: &RcFile, name: &[u8]) -> Option<HashKind>
+    ensures { result ≡ from_file (λ stanza. stanza.mac_kind) file.now name.now }
 {
-    match mac_kind_in(find_stanza(file, words.name.as_slice())) {
+    match mac_kind_in(find_stanza(file, name)) {
         Some(kind) => Some(kind),
         None => mac_kind_in(find_stanza(file, DEFAULT_NAME)),
     }
 }
 
-pub(crate) fn kind(file: &RcFile, words: &SendWords) -> Option<HashKind>
-    ensures { result ≡ from_file (λ stanza. stanza.kind) file.now words.now }
+pub(crate) fn kind(file: &RcFile, name: &[u8]) -> Option<HashKind>
+    ensures { result ≡ from_file (λ stanza. stanza.kind) file.now name.now }
 {
-    match kind_in(find_stanza(file, words.name.as_slice())) {
+    match kind_in(find_stanza(file, name)) {
         Some(kind) => Some(kind),
         None => kind_in(find_stanza(file, DEFAULT_NAME)),
     }
 }
 
-pub(crate) fn timeout(file: &RcFile, words: &SendWords) -> Option<u32>
-    ensures timeout { result ≡ from_file (λ stanza. stanza.timeout) file.now words.now }
+pub(crate) fn timeout(file: &RcFile, name: &[u8]) -> Option<u32>
+    ensures timeout { result ≡ from_file (λ stanza. stanza.timeout) file.now name.now }
     ensures within { IfSome result (λ seconds. (1 ≤ seconds) × (seconds ≤ 604800)) }
 {
-    match timeout_in(find_stanza(file, words.name.as_slice())) {
+    match timeout_in(find_stanza(file, name)) {
         Some(timeout) => Some(timeout),
         None => timeout_in(find_stanza(file, DEFAULT_NAME)),
     }
 }
 
-pub(crate) fn user<'a>(file: &'a RcFile, words: &SendWords) -> Option<&'a Bytes>
-    ensures user { option_copied result ≡ from_file (λ stanza. stanza.user) file.now words.now }
+pub(crate) fn user<'a>(file: &'a RcFile, name: &[u8]) -> Option<&'a Bytes>
+    ensures user { option_copied result ≡ from_file (λ stanza. stanza.user) file.now name.now }
     ensures right { IfSome result (λ user. is_user user.now ≡ true) }
 {
-    match user_in(find_stanza(file, words.name.as_slice())) {
+    match user_in(find_stanza(file, name)) {
         Some(user) => Some(user),
         None => user_in(find_stanza(file, DEFAULT_NAME)),
     }

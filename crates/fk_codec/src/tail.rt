@@ -1,4 +1,4 @@
-ghost use Rattle.std.specs.Prelude.{◌≡◌, ◌+◌, length, MatchResult, None, Some};
+ghost use Rattle.std.specs.Prelude.{◌≡◌, ◌+◌, ◌≤◌, length, IfSome, MatchResult, None, Some};
 ghost use Rattle.fk_base.specs.FirstFailed.{first_failed};
 ghost use Rattle.fk_codec.specs.DecodeFault.{asked_in, count_tests, parts_needed, seconds_in};
 ghost use Rattle.fk_codec.specs.Private.{tail_ask, tail_parts, tail_tests, type_number};
@@ -108,9 +108,10 @@ fn find_asked(part: &[u8]) -> Option<(Ip4, Pairs)>
     read_message(message.as_slice()).ok()
 }
 
-/// The seconds that a part writes.
-fn find_seconds(part: &[u8]) -> Option<u32>
-    ensures { result ≡ seconds_in part.now }
+/// The seconds that a part writes: 1 to a week.
+pub fn find_seconds(part: &[u8]) -> Option<u32>
+    ensures seconds { result ≡ seconds_in part.now }
+    ensures within { IfSome result (λ n. (1 ≤ n) × (n ≤ 604800)) }
 {
     let seconds = find_number(part, LONGEST_TIME)?;
     if seconds >= 1 {

@@ -1,7 +1,7 @@
 use Rattle.std.proofs.Common.{List, ℕ, [], ◌∷◌, ◌++◌, inr, refl, subst}
 use Rattle.fk_program.specs.Telling.{Shows}
 use Rattle.fk_client.specs.Outside.{outside_by}
-use Rattle.fk_client.specs.Private.{fault_of}
+use Rattle.fk_client.specs.Faults.{fault_of}
 use Rattle.fk_client.proofs.Delivering.{in-vain, delivered, as-shown, as-sent}
 use Rattle.fk_client.proofs.sending.run_send.Goals as goal
 

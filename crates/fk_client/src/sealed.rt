@@ -1,0 +1,15 @@
+ghost use Rattle.std.proofs.Props.{props};
+ghost use Rattle.std.specs.Prelude.{◌≤◌, IfSome};
+
+use fk_base::{HashKind, Keys};
+
+/// What seals and opens packets.
+#[derive(Drop)]
+pub struct Sealing {
+    pub keys: Keys,
+    /// The hash of the digest in the plaintext.
+    pub kind: HashKind,
+    /// For how many seconds is asked where the request says none itself.
+    pub seconds: Option<u32>,
+    ghost seconds_within: { IfSome seconds (λ n. (1 ≤ n) × (n ≤ 604800)) } by { Prim.hlevel props },
+}
