@@ -66,17 +66,17 @@ printed-ends : (is_broken : Bool) (answer : Status) → answer ≡ printed_statu
 printed-ends false answer is calm = inl is
 printed-ends true answer is calm = absurd (calm.sink is)
 
-held-same : (name other text found : List ℕ) (held : Option (List HeldFile)) → other ≡ name
+pub held-same : (name other text found : List ℕ) (held : Option (List HeldFile)) → other ≡ name
     → IsSomeAnd held (λ held. bytes_of_file name held ≡ Some text) → IfSome held (λ held. bytes_of_file other held ≡ Some found) → found ≡ text
 held-same name other text found None names right told = absurd right
 held-same name other text found (Some held) names right told =
     let at : bytes_of_file name held ≡ Some found = subst (λ (n : List ℕ). bytes_of_file n held ≡ Some found) names told in
     cc
 
-none-wrong : {X : Type 0} (fault : Option X) (x : X) → fault ≡ None → fault ≡ Some x → ⊥
+pub none-wrong : {X : Type 0} (fault : Option X) (x : X) → fault ≡ None → fault ≡ Some x → ⊥
 none-wrong fault x none wrong = cc
 
-none-told : {X : Type 0} (f : X → FileFault) (found : Option X) (fault : FileFault) → found ≡ None → option_map f found ≡ Some fault → ⊥
+pub none-told : {X : Type 0} (f : X → FileFault) (found : Option X) (fault : FileFault) → found ≡ None → option_map f found ≡ Some fault → ⊥
 none-told f None fault is told = cc
 none-told f (Some x) fault is told = cc
 

@@ -13,7 +13,7 @@ use Rattle.fk_conf.specs.RcFault.{rc_stanzas}
 use Rattle.fk_conf.specs.declared.rc_stanza.RcStanza.{RcStanza}
 use Rattle.fk_words.specs.declared.command.SendWords.{SendWords}
 use Rattle.fk_client.specs.declared.need_fault.NeedFault.TheVariants.{NoStanza, NoServer, NoAccess, NoAllow, NoKey, NoHmacKey}
-use Rattle.fk_client.specs.Settle.{address_of, from_file, from_stanza, need_fault, pairs_of, server_of, stanza_named}
+use Rattle.fk_client.specs.Settle.{address_of, from_file, from_stanza, need_fault, pairs_of, sealing_fault, server_of, stanza_named}
 use Rattle.fk_words.specs.CommandOf.{SaysSame}
 
 -- what is needed of a stanza
@@ -76,11 +76,11 @@ given-same f x y m n files names =
     ∙ ap (option_and_then f) (found-plain m x ∙ ap (plain_named m) files ∙ ap (λ (name : List ℕ). plain_named name (map plain y)) names ∙ sym (found-plain n y))
     ∙ sym (then-plain f (stanza_named n y))
 
-from-same : {X : Type 0} (f : Plain → Option X) (x y : List RcStanza) (a b : SendWords) → map plain x ≡ map plain y → a.name ≡ b.name
-    → from_file (λ s. f (plain s)) x a.name ≡ from_file (λ s. f (plain s)) y b.name
-from-same f x y a b files names =
-    ap (λ o. option_or o (from_stanza (λ s. f (plain s)) x (codes "default"))) (given-same f x y a.name b.name files names)
-    ∙ ap (λ o. option_or (from_stanza (λ s. f (plain s)) y b.name) o) (given-same f x y (codes "default") (codes "default") files refl)
+from-same : {X : Type 0} (f : Plain → Option X) (x y : List RcStanza) (m n : List ℕ) → map plain x ≡ map plain y → m ≡ n
+    → from_file (λ s. f (plain s)) x m ≡ from_file (λ s. f (plain s)) y n
+from-same f x y m n files names =
+    ap (λ o. option_or o (from_stanza (λ s. f (plain s)) x (codes "default"))) (given-same f x y m n files names)
+    ∙ ap (λ o. option_or (from_stanza (λ s. f (plain s)) y n) o) (given-same f x y (codes "default") (codes "default") files refl)
 
 named-same : (x y : List RcStanza) (m n : List ℕ) → map plain x ≡ map plain y → m ≡ n → is_some (stanza_named m x) ≡ is_some (stanza_named n y)
 named-same x y m n files names =
@@ -91,18 +91,18 @@ named-same x y m n files names =
 server-same : (x y : List RcStanza) (a b : SendWords) → map plain x ≡ map plain y → SaysSame a b → server_of x a ≡ server_of y b
 server-same x y a b files same =
     ap (λ o. option_or o (option_or (from_file (λ s. s.server) x a.name) (if a.print then Some [] else None))) same.server
-    ∙ ap (λ o. option_or b.server (option_or o (if a.print then Some [] else None))) (from-same (λ p. p.server) x y a b files same.name)
+    ∙ ap (λ o. option_or b.server (option_or o (if a.print then Some [] else None))) (from-same (λ p. p.server) x y a.name b.name files same.name)
     ∙ ap (λ (shown : Bool). option_or b.server (option_or (from_file (λ s. s.server) y b.name) (if shown then Some [] else None))) same.print
 
 pairs-same : (x y : List RcStanza) (a b : SendWords) → map plain x ≡ map plain y → SaysSame a b → pairs_of x a ≡ pairs_of y b
 pairs-same x y a b files same =
     ap (λ o. option_or o (from_file (λ s. s.pairs) x a.name)) same.pairs
-    ∙ ap (λ o. option_or b.pairs o) (from-same (λ p. p.pairs) x y a b files same.name)
+    ∙ ap (λ o. option_or b.pairs o) (from-same (λ p. p.pairs) x y a.name b.name files same.name)
 
 address-same : (x y : List RcStanza) (a b : SendWords) → map plain x ≡ map plain y → SaysSame a b → address_of x a ≡ address_of y b
 address-same x y a b files same =
     ap (λ o. option_or o (from_file (λ s. s.allow) x a.name)) same.allow
-    ∙ ap (λ o. option_or b.allow o) (from-same (λ p. p.allow) x y a b files same.name)
+    ∙ ap (λ o. option_or b.allow o) (from-same (λ p. p.allow) x y a.name b.name files same.name)
 
 first-same : (a b c d e f a' b' c' d' e' f' : Bool) → a ≡ a' → b ≡ b' → c ≡ c' → d ≡ d' → e ≡ e' → f ≡ f' →
     first_failed ((a, NoStanza) ∷ (b, NoServer) ∷ (c, NoAccess) ∷ (d, NoAllow) ∷ (e, NoKey) ∷ (f, NoHmacKey) ∷ [])
@@ -119,5 +119,14 @@ needs-same text x y a b s t same =
     (ap is_some (server-same x y a b files same))
     (ap is_some (pairs-same x y a b files same))
     (ap is_some (address-same x y a b files same))
-    (ap is_some (from-same (λ p. p.key) x y a b files same.name))
-    (ap is_some (from-same (λ p. p.mac_key) x y a b files same.name))
+    (ap is_some (from-same (λ p. p.key) x y a.name b.name files same.name))
+    (ap is_some (from-same (λ p. p.mac_key) x y a.name b.name files same.name))
+
+-- sealing by the same text and name lacks the same
+pub sealing-same : (text : List ℕ) (x y : List RcStanza) (name : List ℕ) → ReadsRc text x → ReadsRc text y → sealing_fault x name ≡ sealing_fault y name
+sealing-same text x y name s t =
+    let files : map plain x ≡ map plain y = plains-same (rc_stanzas text) x y s.each t.each in
+    let named = named-same x y name name files refl in
+    let key = ap is_some (from-same (λ p. p.key) x y name name files refl) in
+    let mac_key = ap is_some (from-same (λ p. p.mac_key) x y name name files refl) in
+    λ i. first_failed ((named i, NoStanza) ∷ (key i, NoKey) ∷ (mac_key i, NoHmacKey) ∷ [])

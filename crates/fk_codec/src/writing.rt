@@ -3,7 +3,7 @@ ghost use Rattle.std.specs.Fmt.{decimal};
 ghost use Rattle.fk_base.specs.Pairs.{IsPairs};
 ghost use Rattle.fk_text.specs.Text.{text_of};
 ghost use Rattle.fk_mac.specs.Hmac.{hash_of};
-ghost use Rattle.fk_fields.specs.Fields.{asked_pairs, field_fault};
+ghost use Rattle.fk_fields.specs.Fields.{IsFields, asked_pairs, field_fault};
 ghost use Rattle.fk_codec.specs.Private.{ask_text, request_text};
 ghost use Rattle.fk_codec.specs.Spells.{Spells, front_of};
 
@@ -40,9 +40,9 @@ fn put_digest(kind: HashKind, out: &mut Bytes) -> Result<(), NoMemory>
 
 /// Appends all that stands before the digest and its `:`.
 pub fn put_front(alloc: Global, fields: &Fields, out: &mut Bytes) -> Result<(), NoMemory>
+    requires { IsFields fields.now }
     ensures { OnOk result (out.new ≡ out.old ++ front_of fields.now) }
 {
-    fields.keep_rules();
     out.append(&fields.rand.digits())?;
     put_text(fields.user.as_slice(), out)?;
     put_number(fields.stamp, out)?;

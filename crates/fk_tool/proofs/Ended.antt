@@ -1,5 +1,5 @@
 -- A call of the tool in whose way nothing stands ends well, and which words are refused.
-use Rattle.std.proofs.Common.{◌≡◌, ◌≢◌, ◌⊎◌, ℕ, Bool, true, false, List, Result, Ok, Err, IsErr, IsSome, refl, sym, subst, inl, inr}
+use Rattle.std.proofs.Common.{◌≡◌, ◌≢◌, ◌↔◌, ℕ, Bool, true, false, List, Option, Some, None, IfSome, IsSomeAnd, Result, Ok, Err, IsErr, IsSome, refl, sym, subst, ◌∙◌, inl, inr}
 use Rattle.fk_base.specs.declared.status.Status.{Status}
 use Rattle.fk_base.specs.declared.status.Status.TheVariants as status
 use Rattle.fk_host.specs.Count.{counted, Rose}
@@ -17,20 +17,41 @@ use Rattle.fk_words.specs.declared.word_fault.WordFault.TheVariants as word
 use Rattle.fk_words.specs.ReadsWords.{IsWordErr, ReadsWords, set_read}
 use Rattle.fk_program.specs.Faults.{fault_of_words, fault_status}
 use Rattle.fk_program.specs.Telling.{printed_status}
-use Rattle.fk_client.specs.Running.{MakesKeys}
+use Rattle.fk_program.specs.Faults.Fault.{FileNotHeld, FileNotRead, WantsMemory, WrongFile, WrongWords}
+use Rattle.fk_program.specs.Files.{FilesView}
+use Rattle.fk_conf.specs.FaultNames.{conf_fault_name}
+use Rattle.fk_conf.specs.RcFault.{rc_fault}
+use Rattle.fk_conf.specs.ReadsRc.{ReadsRc}
+use Rattle.fk_client.specs.Faults.{Fault, fault_status as client_status}
+use Rattle.fk_client.specs.Faults.Fault.{Common, EntropyFails, LacksSetting, LinkFails}
+use Rattle.fk_client.specs.Running.{FindsNoSealing, MakesKeys}
+use Rattle.fk_client.specs.Settle.{sealing_fault}
+use Rattle.fk_client.specs.declared.sealed.Sealing.{Sealing}
+use Rattle.fk_client.proofs.Ended.{held-same, none-told, none-wrong}
+use Rattle.fk_client.proofs.Needs.{sealing-same}
+use Rattle.fk_input.specs.Lines.{pieces}
+use Rattle.fk_input.specs.declared.fault.Fault.{Fault as LineFault}
+use Rattle.fk_input.proofs.Readings.{Reads-one}
 use Rattle.fk_view.specs.Viewing.{FailsToView, view_status}
 use Rattle.fk_view.specs.Viewing.{HoldsSome}
 use Rattle.fk_view.proofs.Viewed.{NoneBoth, not_damaged}
 use Rattle.fk_tool.specs.Causes.{FailsByAnswer}
 use Rattle.fk_tool.specs.Lines.{ShowsLines}
-use Rattle.fk_tool.specs.Outside.{Outside}
-use Rattle.fk_tool.specs.Ready.{CountsNone, EndsAs, IsReadyFor, MeetsNoFault}
-use Rattle.fk_tool.specs.Running.{AsksForMore, IsToCome, PrintsJournal, Runs, RunsTool}
+use Rattle.fk_tool.specs.Outside.{Outside, streams_of}
+use Rattle.fk_tool.specs.Ready.{CountsNone, EndsAs, HoldsSealing, IsReadyFor, IsReadyForJob, MeetsNoFault}
+use Rattle.fk_tool.specs.Running.{PrintsJournal, Runs, RunsJob, RunsTool}
+use Rattle.fk_tool.specs.Streams.{HasLines, IsJobLine, ReadsLines, Streams, stop_status}
+use Rattle.fk_tool.specs.declared.job.Job.{Job}
+use Rattle.fk_tool.specs.declared.job.Job.TheVariants.{Decode, Encode}
+use Rattle.fk_tool.specs.declared.stop.Stop.{Stop}
+use Rattle.fk_tool.specs.declared.stop.Stop.TheVariants as stop
 
 -- the answer is no fault of an object
 record IsCalm (answer : Status) : Type 0 where
+  files : answer ≢ status.FileFault
   entropy : answer ≢ status.EntropyFault
   disk : answer ≢ status.DiskFault
+  input : answer ≢ status.ReadFault
   sink : answer ≢ status.SinkFault
 
 rose : (old new : ℕ) → new ≡ counted old → Rose old new
@@ -48,8 +69,10 @@ not-sink answer old new fails calm = λ is. calm (rose old new (subst (λ (a : S
 
 calm : (answer : Status) (old new : Outside) → FailsByAnswer answer old new → CountsNone old new → IsCalm answer
 calm answer old new fails none = record {
+  files = not-only status.FileFault answer old.files.faults new.files.faults fails.files none.files;
   entropy = not-only status.EntropyFault answer old.entropy.faults new.entropy.faults fails.entropy none.entropy;
   disk = not-only status.DiskFault answer old.disk.faults new.disk.faults fails.disk none.disk;
+  input = not-only status.ReadFault answer old.input.faults new.input.faults fails.input none.input;
   sink = not-sink answer old.sink.faults new.sink.faults fails.sink none.sink;
 }
 
@@ -91,12 +114,74 @@ journal-ends old new answer prints calm none holds tells =
       | inr nothing ↦ view-ends nothing.fault answer old.disk new.disk nothing.fails nothing.told.answered calm none holds tells
     ]
 
+-- the same names
+pub job-named : (job : Sealing → Job) (f file n name : List ℕ) (files later : FilesView) (old new : Streams) (answer : Status) → f ≡ file → n ≡ name
+    → RunsJob job f n files later old new answer → RunsJob job file name files later old new answer
+job-named job f file n name files later old new answer same_file same_name runs =
+    subst (λ (x : List ℕ). RunsJob job x name files later old new answer) same_file
+    (subst (λ (x : List ℕ). RunsJob job f x files later old new answer) same_name runs)
+
+-- no fault of the file or of its stanza is told
+sealing-ends : (file name : List ℕ) (fault : Fault) (old new : FilesView) → HoldsSealing file name old → FindsNoSealing file name fault old new → IsCalm (client_status fault)
+    → EndsAs status.Done (client_status fault)
+sealing-ends file name (Common (FileNotHeld named)) old new ready fails calm = absurd (calm.files refl)
+sealing-ends file name (Common (FileNotRead named)) old new ready fails calm = absurd (calm.files refl)
+sealing-ends file name (Common (WrongFile named line what)) old new ready fails calm =
+    let text : fails.1.0 ≡ ready.text = held-same file file ready.text fails.1.0 old.held refl ready.held fails.1.1.held in
+    absurd (none-told (λ found. WrongFile file found.0 (conf_fault_name found.1)) (rc_fault fails.1.0) (WrongFile named line what)
+    (subst (λ (t : List ℕ). rc_fault t ≡ None) (sym text) ready.says.faultless) fails.1.2)
+sealing-ends file name (LacksSetting named what) old new ready fails calm =
+    let lacks = fails.2 in
+    let text : lacks.read.text ≡ ready.text = held-same file file ready.text lacks.read.text old.held refl ready.held lacks.read.read.held in
+    let says : ReadsRc ready.text lacks.stanzas = subst (λ (t : List ℕ). ReadsRc t lacks.stanzas) text lacks.read.says in
+    absurd (none-wrong (sealing_fault lacks.stanzas name) lacks.fault (sealing-same ready.text lacks.stanzas ready.stanzas name says ready.says ∙ ready.needs) lacks.first)
+sealing-ends file name (Common WantsMemory) old new ready fails calm = inr refl
+sealing-ends file name (Common (WrongWords why)) old new ready fails calm = absurd fails
+sealing-ends file name EntropyFails old new ready fails calm = absurd fails
+sealing-ends file name LinkFails old new ready fails calm = absurd fails
+
+-- an input of which each line is right has no fault
+right-input : (job : Job) (left : Option (List ℕ)) (lines : List (List ℕ)) (fault : LineFault) → IsSomeAnd left (λ text. (right : List (List ℕ)) × ReadsLines job (pieces text) right None)
+    → IfSome left (λ text. ReadsLines job (pieces text) lines (Some fault)) → ⊥
+right-input job None lines fault right wrong = absurd right
+right-input job (Some text) lines fault right wrong =
+    let one = Reads-one (IsJobLine job) (λ line a b is other. is.0 ∙ sym other.0) right.1 wrong in
+    let none : None ≡ Some fault = one.1 in cc
+
+stop-ends : (job : Job) (how : Stop) (is_broken : Bool) (old new : Streams) (lines : List (List ℕ)) (answer : Status)
+    → IsSomeAnd old.input.left (λ text. (right : List (List ℕ)) × ReadsLines job (pieces text) right None)
+    → HasLines job how old.input.left new.input.left lines → answer ≡ stop_status how is_broken → IsCalm answer → EndsAs status.Done answer
+stop-ends job stop.End is_broken old new lines answer right reading is calm = printed-ends is_broken answer is calm
+stop-ends job stop.BadLine is_broken old new lines answer right reading is calm = absurd (right-input job old.input.left lines _ right reading)
+stop-ends job stop.LongInput is_broken old new lines answer right reading is calm = absurd (right-input job old.input.left lines _ right reading)
+stop-ends job stop.ReadFault is_broken old new lines answer right reading is calm = absurd (calm.input is)
+stop-ends job stop.EntropyFault is_broken old new lines answer right reading is calm = absurd (calm.entropy is)
+stop-ends job stop.NoMemory is_broken old new lines answer right reading is calm = inr is
+
+told-right : (job : Sealing → Job) (sealing : Sealing) (left : Option (List ℕ))
+    → IsSomeAnd left (λ text. (sealing : Sealing) → (lines : List (List ℕ)) × ReadsLines (job sealing) (pieces text) lines None)
+    → IsSomeAnd left (λ text. (right : List (List ℕ)) × ReadsLines (job sealing) (pieces text) right None)
+told-right job sealing None told = absurd told
+told-right job sealing (Some text) told = told sealing
+
+job-ends : (job : Sealing → Job) (file name : List ℕ) (old new : Outside) (answer : Status) → IsReadyForJob job file name old.files old.input
+    → RunsJob job file name old.files new.files (streams_of old) (streams_of new) answer → IsCalm answer → EndsAs status.Done answer
+job-ends job file name old new answer ready runs calm =
+    elim runs [
+      | inl lacks ↦ subst (EndsAs status.Done) (sym lacks.2.told.answered)
+          (sealing-ends file name lacks.0 old.files new.files ready.seals lacks.1 (subst IsCalm lacks.2.told.answered calm))
+      | inr sealed ↦
+          let answers = sealed.3 in
+          stop-ends (job sealed.0) answers.how answers.is_broken (streams_of old) (streams_of new) answers.lines answer (told-right job sealed.0 old.input.left ready.told)
+          answers.reading answers.answered calm
+    ]
+
 runs-end : (asked : Command) (old new : Outside) (answer : Status) → IsReadyFor asked old new → Runs asked old new answer → IsCalm answer → NoneBoth → EndsAs status.Done answer
 runs-end (command.Generate count) old new answer ready runs calm none = lines-end count old.sink new.sink answer runs.1 calm
-runs-end command.KeyGen old new answer ready runs calm none = keys-end old new answer runs.1 calm
-runs-end command.Journal old new answer ready runs calm none = journal-ends old new answer runs.1 calm none ready.0 ready.1
-runs-end (command.Encode file name) old new answer ready runs calm none = absurd ready
-runs-end (command.Decode file name) old new answer ready runs calm none = absurd ready
+runs-end command.KeyGen old new answer ready runs calm none = keys-end old new answer runs.2 calm
+runs-end command.Journal old new answer ready runs calm none = journal-ends old new answer runs.2 calm none ready.0 ready.1
+runs-end (command.Encode file name) old new answer ready runs calm none = job-ends Encode file name old new answer ready runs.1 calm
+runs-end (command.Decode file name) old new answer ready runs calm none = job-ends Decode file name old new answer ready runs.1 calm
 runs-end command.Help old new answer ready runs calm none = printed-ends runs.1.is_broken answer runs.1.answered calm
 runs-end command.Version old new answer ready runs calm none = printed-ends runs.1.is_broken answer runs.1.answered calm
 runs-end (command.Serve conf access packets turns verbose) old new answer ready runs calm none = absurd runs
@@ -168,33 +253,46 @@ no-usage-journal old new answer prints =
       | inr nothing ↦ no-usage-view nothing.fault answer nothing.told.answered
     ]
 
--- a command that is answered usage is one that is still to come
-usage-asked : (asked : Command) (old new : Outside) (answer : Status) → Runs asked old new answer → answer ≡ status.Usage → IsToCome asked
-usage-asked (command.Generate count) old new answer runs is = absurd (no-usage-lines count old.sink new.sink answer runs.1 is)
-usage-asked command.KeyGen old new answer runs is = absurd (no-usage-keys old new answer runs.1 is)
-usage-asked command.Journal old new answer runs is = absurd (no-usage-journal old new answer runs.1 is)
-usage-asked (command.Encode file name) old new answer runs is = tt
-usage-asked (command.Decode file name) old new answer runs is = tt
-usage-asked command.Help old new answer runs is = absurd (no-usage-printed runs.1.is_broken answer runs.1.answered is)
-usage-asked command.Version old new answer runs is = absurd (no-usage-printed runs.1.is_broken answer runs.1.answered is)
-usage-asked (command.Serve conf access packets turns verbose) old new answer runs is = absurd runs
-usage-asked (command.Trial conf access quiet verbose) old new answer runs is = absurd runs
-usage-asked command.List old new answer runs is = absurd runs
-usage-asked (command.Send send) old new answer runs is = absurd runs
+no-usage-fault : (file name : List ℕ) (fault : Fault) (old new : FilesView) → FindsNoSealing file name fault old new → client_status fault ≢ status.Usage
+no-usage-fault file name (Common (FileNotHeld named)) old new fails = λ usage. cc
+no-usage-fault file name (Common (FileNotRead named)) old new fails = λ usage. cc
+no-usage-fault file name (Common (WrongFile named line what)) old new fails = λ usage. cc
+no-usage-fault file name (Common WantsMemory) old new fails = λ usage. cc
+no-usage-fault file name (Common (WrongWords why)) old new fails = absurd fails
+no-usage-fault file name (LacksSetting named what) old new fails = λ usage. cc
+no-usage-fault file name EntropyFails old new fails = absurd fails
+no-usage-fault file name LinkFails old new fails = absurd fails
 
--- what is still to come is answered usage
-asked-usage : (asked : Command) (old new : Outside) (answer : Status) → Runs asked old new answer → IsToCome asked → answer ≡ status.Usage
-asked-usage (command.Encode file name) old new answer runs later = runs.1.answered
-asked-usage (command.Decode file name) old new answer runs later = runs.1.answered
-asked-usage (command.Generate count) old new answer runs later = absurd later
-asked-usage command.KeyGen old new answer runs later = absurd later
-asked-usage command.Journal old new answer runs later = absurd later
-asked-usage command.Help old new answer runs later = absurd later
-asked-usage command.Version old new answer runs later = absurd later
-asked-usage (command.Serve conf access packets turns verbose) old new answer runs later = absurd later
-asked-usage (command.Trial conf access quiet verbose) old new answer runs later = absurd later
-asked-usage command.List old new answer runs later = absurd later
-asked-usage (command.Send send) old new answer runs later = absurd later
+no-usage-stop : (how : Stop) (is_broken : Bool) → stop_status how is_broken ≢ status.Usage
+no-usage-stop stop.End false = λ usage. cc
+no-usage-stop stop.End true = λ usage. cc
+no-usage-stop stop.BadLine is_broken = λ usage. cc
+no-usage-stop stop.LongInput is_broken = λ usage. cc
+no-usage-stop stop.ReadFault is_broken = λ usage. cc
+no-usage-stop stop.EntropyFault is_broken = λ usage. cc
+no-usage-stop stop.NoMemory is_broken = λ usage. cc
+
+no-usage-job : (job : Sealing → Job) (file name : List ℕ) (files later : FilesView) (old new : Streams) (answer : Status) → RunsJob job file name files later old new answer
+    → answer ≢ status.Usage
+no-usage-job job file name files later old new answer runs =
+    elim runs [
+      | inl lacks ↦ λ usage. no-usage-fault file name lacks.0 files later lacks.1 (sym lacks.2.told.answered ∙ usage)
+      | inr sealed ↦ λ usage. no-usage-stop sealed.3.how sealed.3.is_broken (sym sealed.3.answered ∙ usage)
+    ]
+
+-- a command is never answered usage
+no-usage : (asked : Command) (old new : Outside) (answer : Status) → Runs asked old new answer → answer ≢ status.Usage
+no-usage (command.Generate count) old new answer runs = no-usage-lines count old.sink new.sink answer runs.1
+no-usage command.KeyGen old new answer runs = no-usage-keys old new answer runs.2
+no-usage command.Journal old new answer runs = no-usage-journal old new answer runs.2
+no-usage (command.Encode file name) old new answer runs = no-usage-job Encode file name old.files new.files (streams_of old) (streams_of new) answer runs.1
+no-usage (command.Decode file name) old new answer runs = no-usage-job Decode file name old.files new.files (streams_of old) (streams_of new) answer runs.1
+no-usage command.Help old new answer runs = no-usage-printed runs.1.is_broken answer runs.1.answered
+no-usage command.Version old new answer runs = no-usage-printed runs.1.is_broken answer runs.1.answered
+no-usage (command.Serve conf access packets turns verbose) old new answer runs = absurd runs
+no-usage (command.Trial conf access quiet verbose) old new answer runs = absurd runs
+no-usage command.List old new answer runs = absurd runs
+no-usage (command.Send send) old new answer runs = absurd runs
 
 err-of : {T : Type 0} (read : Result T WordFault) (fault : WordFault) → read ≡ Err fault → IsErr read
 err-of (Ok set) fault is = absurd cc
@@ -222,29 +320,16 @@ refused-word words (word.Twice place) answer why is wrong = is
 refused-word words (word.BadValue place) answer why is wrong = is
 refused-word words word.Modes answer why is wrong = is
 
--- the answer is usage only where the words are refused
-pub tool-usage : (words : List (List ℕ)) (old new : Outside) (answer : Status) → RunsTool words old new answer → answer ≡ status.Usage
-    → IsErr (set_read Fko words) ⊎ AsksForMore words
-tool-usage words old new answer runs is =
+-- the answer is usage exactly where the words fail a test
+pub tool-usage : (words : List (List ℕ)) (old new : Outside) (answer : Status) → RunsTool words old new answer → (answer ≡ status.Usage) ↔ IsErr (set_read Fko words)
+tool-usage words old new answer runs =
     elim runs [
-      | inl refuses ↦ inl (word-refused words refuses.fault answer refuses.first refuses.told.answered is)
-      | inr obeys ↦ inr (record { command = obeys.command; reads = obeys.reads; later = usage-asked obeys.command old new answer obeys.runs is })
-    ]
-
--- and where they fail a test it is
-pub tool-wrong : (words : List (List ℕ)) (old new : Outside) (answer : Status) → RunsTool words old new answer → IsErr (set_read Fko words) → answer ≡ status.Usage
-tool-wrong words old new answer runs wrong =
-    elim runs [
-      | inl refuses ↦ refused-word words refuses.fault answer refuses.first refuses.told.answered wrong
-      | inr obeys ↦ absurd (ok-no_err (set_read Fko words) obeys.reads.set obeys.reads.reads wrong)
-    ]
-
--- and, unless memory is wanting, where they ask for what is still to come
-pub tool-later : (words : List (List ℕ)) (old new : Outside) (answer : Status) → RunsTool words old new answer → OneCommand → AsksForMore words → EndsAs status.Usage answer
-tool-later words old new answer runs one more =
-    elim runs [
-      | inl refuses ↦ word-ends words refuses.fault more.command status.Usage answer refuses.first more.reads refuses.told.answered
-      | inr obeys ↦
-          inl (asked-usage obeys.command old new answer obeys.runs
-          (subst IsToCome (one words more.command obeys.command more.reads obeys.reads) more.later))
+      | inl refuses ↦ (
+          λ is. word-refused words refuses.fault answer refuses.first refuses.told.answered is,
+          λ wrong. refused-word words refuses.fault answer refuses.first refuses.told.answered wrong,
+        )
+      | inr obeys ↦ (
+          λ is. absurd (no-usage obeys.command old new answer obeys.runs is),
+          λ wrong. absurd (ok-no_err (set_read Fko words) obeys.reads.set obeys.reads.reads wrong),
+        )
     ]

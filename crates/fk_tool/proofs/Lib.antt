@@ -1,3 +1,5 @@
+mod Answered
 mod Counting
 mod Ended
 mod Printed
+mod Sessions

@@ -24,7 +24,7 @@ use Rattle.fk_tool.specs.Lines.{PrintsLines, line_of_parts}
 use Rattle.fk_tool.specs.Generated.{AreGeneratedFields, IsGeneratedDatagram, IsGeneratedLine, IsGeneratedText, address_of, moment_of, rand_of}
 use Rattle.fk_tool.specs.Generated.IsGeneratedText.{next}
 
-gives-none : (written : Option (List ℕ)) → Gives [] written written
+pub gives-none : (written : Option (List ℕ)) → Gives [] written written
 gives-none None = tt
 gives-none (Some bytes) = ap Some (sym (append-nil bytes))
 

@@ -1,5 +1,11 @@
 pub mod Lines
 pub mod Generated
+pub mod EncodeLine
+pub mod DecodedText
+pub mod Answers
+pub mod Streams
+pub mod Sessions
+pub mod Private
 pub mod JournalText
 pub mod Outside
 pub mod Running

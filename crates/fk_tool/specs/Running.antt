@@ -4,7 +4,6 @@ use Rattle.fk_base.specs.declared.status.Status.{Status}
 use Rattle.fk_trace.specs.declared.change.Change.{Change}
 use Rattle.fk_host.specs.Disk.{IfTold}
 use Rattle.fk_journal.specs.declared.fault.JournalErr.{JournalErr}
-use Rattle.fk_log.specs.declared.usage_fault.UsageFault.TheVariants as usage
 use Rattle.fk_log.specs.Printing.{SinkView}
 use Rattle.fk_child.specs.View.{View}
 use Rattle.fk_ledger.specs.Holds.{HoldsLedger}
@@ -14,19 +13,30 @@ use Rattle.fk_words.specs.declared.tool.Tool.TheVariants.{Fko}
 use Rattle.fk_words.specs.declared.word_fault.WordFault.{WordFault}
 use Rattle.fk_words.specs.ReadsWords.{IsWordErr, ReadsWords}
 use Rattle.fk_program.specs.Faults.{Tells, fault_of_words}
-use Rattle.fk_program.specs.Faults.Fault.{WrongWords}
+use Rattle.fk_program.specs.Files.{FilesView}
 use Rattle.fk_program.specs.Telling.{Shows, Stops}
-use Rattle.fk_client.specs.Running.{MakesKeys}
+use Rattle.fk_client.specs.Faults.{Fault, Tells as TellsClient}
+use Rattle.fk_client.specs.Running.{FindsNoSealing, HasSealing, MakesKeys}
+use Rattle.fk_client.specs.declared.sealed.Sealing.{Sealing}
 use Rattle.fk_view.specs.Viewing.{SaysTheSame}
 use Rattle.fk_view.specs.Viewing.{FailsToView, OnlyReads, view_status, view_text}
 use Rattle.fk_tool.specs.declared.help.TheConstants.{HELP, VERSION}
 use Rattle.fk_tool.specs.Generated.{IsGeneratedText}
 use Rattle.fk_tool.specs.JournalText.{AreShown}
 use Rattle.fk_tool.specs.Lines.{ShowsLines}
-use Rattle.fk_tool.specs.Outside.{Outside}
+use Rattle.fk_tool.specs.Outside.{Outside, streams_of}
+use Rattle.fk_tool.specs.Streams.{AnswersInput, Streams}
+use Rattle.fk_tool.specs.declared.job.Job.{Job}
+use Rattle.fk_tool.specs.declared.job.Job.TheVariants.{Decode, Encode}
+
+-- neither a file nor the input was read
+pub record ReadsNothing (old new : Outside) : Type 0 where
+  pub files : new.files ≡ old.files
+  pub input : new.input ≡ old.input
 
 -- only the output was asked for something
 pub record OnlyPrints (old new : Outside) : Type 0 where
+  pub reads : ReadsNothing old new
   pub entropy : new.entropy ≡ old.entropy
   pub disk : SaysTheSame old.disk new.disk
 
@@ -48,13 +58,30 @@ pub record PrintsJournal (old new : View) (sink printed : SinkView) (answer : St
   pub disk : OnlyReads old new
   pub came : ShowsLedger old new sink printed answer ⊎ ShowsNothing old new sink printed answer
 
--- what a command of the tool does; the two that are still to come are told as an unknown word
+-- the fault of the file or of its stanza was told, and nothing else was asked for anything
+pub record MeetsFault (fault : Fault) (old new : Streams) (answer : Status) : Type 0 where
+  pub entropy : new.entropy ≡ old.entropy
+  pub input : new.input ≡ old.input
+  pub told : TellsClient fault old.sink new.sink answer
+
+-- what a job over lines comes to: the stanza of this name does not seal, for a fault that is told, or the input is answered by what it
+-- gives
+abbrev pub RunsJob : (Sealing → Job) → (file name : List ℕ) → FilesView → FilesView → Streams → Streams → Status → Type 0
+RunsJob job file name files later old new answer =
+    ((fault : Fault) × FindsNoSealing file name fault files later × MeetsFault fault old new answer)
+    ⊎ ((sealing : Sealing) × HasSealing file name files sealing × (later ≡ files) × AnswersInput (job sealing) old new answer)
+
+-- what a command of the tool does
 abbrev pub Runs : Command → Outside → Outside → Status → Type 0
 Runs (command.Generate count) old new answer = OnlyPrints old new × ShowsLines IsGeneratedText count old.sink new.sink answer
-Runs command.KeyGen old new answer = SaysTheSame old.disk new.disk × MakesKeys old.entropy new.entropy old.sink new.sink answer
-Runs command.Journal old new answer = (new.entropy ≡ old.entropy) × PrintsJournal old.disk new.disk old.sink new.sink answer
-Runs (command.Encode file name) old new answer = OnlyPrints old new × Tells (WrongWords (usage.Unknown 1)) old.sink new.sink answer
-Runs (command.Decode file name) old new answer = OnlyPrints old new × Tells (WrongWords (usage.Unknown 1)) old.sink new.sink answer
+Runs command.KeyGen old new answer =
+    ReadsNothing old new × SaysTheSame old.disk new.disk × MakesKeys old.entropy new.entropy old.sink new.sink answer
+Runs command.Journal old new answer =
+    ReadsNothing old new × (new.entropy ≡ old.entropy) × PrintsJournal old.disk new.disk old.sink new.sink answer
+Runs (command.Encode file name) old new answer =
+    SaysTheSame old.disk new.disk × RunsJob Encode file name old.files new.files (streams_of old) (streams_of new) answer
+Runs (command.Decode file name) old new answer =
+    SaysTheSame old.disk new.disk × RunsJob Decode file name old.files new.files (streams_of old) (streams_of new) answer
 Runs command.Help old new answer = OnlyPrints old new × Shows HELP.now old.sink new.sink answer
 Runs command.Version old new answer = OnlyPrints old new × Shows VERSION.now old.sink new.sink answer
 Runs (command.Serve conf access packets turns verbose) old new answer = ⊥
@@ -78,15 +105,3 @@ pub record ObeysWords (words : List (List ℕ)) (old new : Outside) (answer : St
 -- what the tool does with its words
 abbrev pub RunsTool : List (List ℕ) → Outside → Outside → Status → Type 0
 RunsTool words old new answer = RefusesWords words old new answer ⊎ ObeysWords words old new answer
-
--- the command is still to come
-abbrev pub IsToCome : Command → Type 0
-IsToCome (command.Encode file name) = Unit {0}
-IsToCome (command.Decode file name) = Unit {0}
-IsToCome _ = ⊥
-
--- the words ask for a command that is still to come
-pub record AsksForMore (words : List (List ℕ)) : Type 0 where
-  pub command : Command
-  pub reads : ReadsWords Fko words command
-  pub later : IsToCome command

@@ -5,7 +5,9 @@
 
 use fk_base::{NoMemory, Status, Words};
 use fk_program::argument_words;
-use fk_system::{StdSink, SysEntropy, SysHost, TimedOutput, take_closed_streams};
+use fk_system::{
+    DirFiles, StdSink, StdSource, SysEntropy, SysHost, TimedOutput, take_closed_streams,
+};
 use fk_tool::fko_run;
 use std::process::ExitCode;
 
@@ -23,6 +25,9 @@ fn run(rt: &HostRuntime) -> Status {
 }
 
 fn run_words(rt: &HostRuntime, words: &Words) -> Status {
+    let Ok(for_files) = rt.clone() else {
+        return Status::NoMemory;
+    };
     let Ok(for_entropy) = rt.clone() else {
         return Status::NoMemory;
     };
@@ -32,8 +37,10 @@ fn run_words(rt: &HostRuntime, words: &Words) -> Status {
     fko_run(
         rt.alloc(),
         words,
+        &mut DirFiles::new(rt.alloc(), for_files),
         &mut SysEntropy::new(for_entropy),
         &mut SysHost::new(rt.alloc(), for_disk, rt.stderr()),
+        &mut StdSource::new(rt.reader()),
         &mut StdSink::new(TimedOutput::new(rt.stdout())),
     )
 }

@@ -18,6 +18,6 @@ returns-in-Err g c =
     inl (record {
       fault = c.in-Err.fault;
       first = c.in-Err.ensures.command;
-      only = record { entropy = refl; disk = same-host (view_of g.D.Disk c.args.disk.now) };
+      only = record { reads = record { files = refl; input = refl }; entropy = refl; disk = same-host (view_of g.D.Disk c.args.disk.now) };
       told = subst (λ (fault : Fault). Tells fault (sink c.args.out.now) (sink c.refuse.new.out) c.refuse.result) c.refusal_of_words.ensures c.refuse.ensures;
     })
