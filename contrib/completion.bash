@@ -36,10 +36,24 @@ _fwknop() {
     esac
 }
 
-# The first word alone: a command, or one of the two options. Each begins a line of the table, which the examples end.
+# The first word is a command, or one of the two options. Each begins a line of the table, which the examples end. Behind a command that
+# takes FILE and NAME come a file's name and that of one of its stanzas.
 _fko() {
+    local word=${COMP_WORDS[COMP_CWORD]} table
+    table=$("$1" --help 2>/dev/null | sed -n '/^examples/q; s/^  \([a-z-]\)/\1/p')
     COMPREPLY=()
-    [ "$COMP_CWORD" -gt 1 ] || mapfile -t COMPREPLY < <(compgen -W "$("$1" --help 2>/dev/null | sed -n '/^examples/q; s/^  \([a-z-]*\) .*/\1/p')" -- "${COMP_WORDS[COMP_CWORD]}")
+    case "$COMP_CWORD" in
+        1) mapfile -t COMPREPLY < <(compgen -W "$(sed 's/ .*//' <<<"$table")" -- "$word") ;;
+        2 | 3)
+            grep -q "^${COMP_WORDS[1]} FILE NAME " <<<"$table" || return
+            if [ "$COMP_CWORD" -eq 2 ]; then
+                mapfile -t COMPREPLY < <(compgen -f -- "$word")
+                compopt -o filenames 2>/dev/null
+            else
+                mapfile -t COMPREPLY < <(compgen -W "$(_fwknop_stanzas "${COMP_WORDS[2]}")" -- "$word")
+            fi
+            ;;
+    esac
 }
 
 complete -F _fwknop fwknopd fwknop

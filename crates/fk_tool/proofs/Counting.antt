@@ -180,23 +180,38 @@ stop-counts stop.End false drawn text old new files disk input draws prints =
 stop-counts stop.End true drawn text old new files disk input draws prints =
     record { files = inr (λ e. cc, files); entropy = inr (λ e. cc, draws.1); disk = inr (λ e. cc, disk); input = inr (λ e. cc, input); sink = prints.1 }
 stop-counts stop.BadLine is_broken drawn text old new files disk input draws prints = record {
-  files = inr (λ e. cc, files); entropy = inr (λ e. cc, draws.1); disk = inr (λ e. cc, disk); input = inr (λ e. cc, input);
+  files = inr (λ e. cc, files);
+  entropy = inr (λ e. cc, draws.1);
+  disk = inr (λ e. cc, disk);
+  input = inr (λ e. cc, input);
   sink = said-once (Some text) old.sink new.sink (is_broken, prints);
 }
 stop-counts stop.LongInput is_broken drawn text old new files disk input draws prints = record {
-  files = inr (λ e. cc, files); entropy = inr (λ e. cc, draws.1); disk = inr (λ e. cc, disk); input = inr (λ e. cc, input);
+  files = inr (λ e. cc, files);
+  entropy = inr (λ e. cc, draws.1);
+  disk = inr (λ e. cc, disk);
+  input = inr (λ e. cc, input);
   sink = said-once (Some text) old.sink new.sink (is_broken, prints);
 }
 stop-counts stop.ReadFault is_broken drawn text old new files disk input draws prints = record {
-  files = inr (λ e. cc, files); entropy = inr (λ e. cc, draws.1); disk = inr (λ e. cc, disk); input = inl (refl, input);
+  files = inr (λ e. cc, files);
+  entropy = inr (λ e. cc, draws.1);
+  disk = inr (λ e. cc, disk);
+  input = inl (refl, input);
   sink = said-once (Some text) old.sink new.sink (is_broken, prints);
 }
 stop-counts stop.EntropyFault is_broken drawn text old new files disk input draws prints = record {
-  files = inr (λ e. cc, files); entropy = inl (refl, draws.1); disk = inr (λ e. cc, disk); input = inr (λ e. cc, input);
+  files = inr (λ e. cc, files);
+  entropy = inl (refl, draws.1);
+  disk = inr (λ e. cc, disk);
+  input = inr (λ e. cc, input);
   sink = said-once (Some text) old.sink new.sink (is_broken, prints);
 }
 stop-counts stop.NoMemory is_broken drawn text old new files disk input draws prints = record {
-  files = inr (λ e. cc, files); entropy = inr (λ e. cc, draws.3); disk = inr (λ e. cc, disk); input = inr (λ e. cc, input);
+  files = inr (λ e. cc, files);
+  entropy = inr (λ e. cc, draws.3);
+  disk = inr (λ e. cc, disk);
+  input = inr (λ e. cc, input);
   sink = said-once (Some text) old.sink new.sink (is_broken, prints);
 }
 

@@ -325,11 +325,11 @@ pub tool-usage : (words : List (List ℕ)) (old new : Outside) (answer : Status)
 tool-usage words old new answer runs =
     elim runs [
       | inl refuses ↦ (
-          λ is. word-refused words refuses.fault answer refuses.first refuses.told.answered is,
-          λ wrong. refused-word words refuses.fault answer refuses.first refuses.told.answered wrong,
-        )
+        λ is. word-refused words refuses.fault answer refuses.first refuses.told.answered is,
+        λ wrong. refused-word words refuses.fault answer refuses.first refuses.told.answered wrong,
+      )
       | inr obeys ↦ (
-          λ is. absurd (no-usage obeys.command old new answer obeys.runs is),
-          λ wrong. absurd (ok-no_err (set_read Fko words) obeys.reads.set obeys.reads.reads wrong),
-        )
+        λ is. absurd (no-usage obeys.command old new answer obeys.runs is),
+        λ wrong. absurd (ok-no_err (set_read Fko words) obeys.reads.set obeys.reads.reads wrong),
+      )
     ]

@@ -16,7 +16,7 @@ returns-in-Encode g c =
     subst (λ (asked : Command). Runs asked before after c.encode_input.result) (sym c.in-Encode.is) (
       same-host (view_of g.D.Disk c.args.disk.now),
       job-named Encode _ _ _ _ before.files after.files (streams_of before) (streams_of after) c.encode_input.result c.as_slice-file.ensures c.as_slice-name.ensures
-      c.encode_input.ensures,
+          c.encode_input.ensures,
     )
 
 pub returns-in-Decode : goal.returns-in-Decode
@@ -27,5 +27,5 @@ returns-in-Decode g c =
     subst (λ (asked : Command). Runs asked before after c.decode_input.result) (sym c.in-Decode.is) (
       same-host (view_of g.D.Disk c.args.disk.now),
       job-named Decode _ _ _ _ before.files after.files (streams_of before) (streams_of after) c.decode_input.result c.as_slice-file-in-Decode.ensures c.as_slice-name-in-Decode.ensures
-      c.decode_input.ensures,
+          c.decode_input.ensures,
     )
