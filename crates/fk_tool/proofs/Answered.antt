@@ -1,5 +1,5 @@
 -- What a line of the input says, and what is printed for it.
-use Rattle.std.proofs.Common.{◌≡◌, ℕ, ◌<◌, ◌≤◌, ◌^◌, List, [], Option, None, Some, IfSome, refl, sym, arith}
+use Rattle.std.proofs.Common.{◌≡◌, ℕ, ◌<◌, ◌≤◌, ◌^◌, List, [], Option, None, Some, IfSome, refl, sym}
 use Rattle.fk_base.specs.Decimal.{number_in}
 use Rattle.fk_base.proofs.FoundValues.{number_in_iff}
 use Rattle.fk_host.specs.Stream.{Takes}

@@ -1,5 +1,5 @@
 -- A session over lines, from line to line and to its end.
-use Rattle.std.proofs.Common.{◌≡◌, ℕ, ◌+◌, ◌<◌, ◌≤◌, Bool, true, false, List, [], ◌∷◌, ◌++◌, length, Option, None, Some, IfNone, Result, ⊎_elim, refl, sym, ap, subst, ◌∙◌, append-nil, length-append, zero-le, inl, inr, arith}
+use Rattle.std.proofs.Common.{◌≡◌, ℕ, ◌+◌, ◌<◌, ◌≤◌, Bool, true, false, List, [], ◌∷◌, ◌++◌, length, Option, None, Some, IfNone, ⊎_elim, refl, sym, ap, subst, ◌∙◌, append-nil, length-append, zero-le, arith}
 use Rattle.std.specs.List.{concat}
 use Rattle.std.proofs.lemmas.List.{append_cancel_left}
 use Rattle.std.proofs.lemmas.Bool.{cases_Bool}
@@ -16,10 +16,10 @@ use Rattle.fk_input.proofs.Progress.{HasRead-line, HasRead-new, Reads-bad_line, 
 use Rattle.fk_log.specs.Printing.{Prints, SinkView}
 use Rattle.fk_client.specs.Outside.{EntropyView}
 use Rattle.fk_client.proofs.Saying.{prints-behind, prints-longer}
-use Rattle.fk_tool.specs.Answers.{AreAnswers, IsRight}
+use Rattle.fk_tool.specs.Answers.{IsRight}
 use Rattle.fk_tool.specs.Answers.AreAnswers.{next, none}
-use Rattle.fk_tool.specs.Private.{IsAnswered, IsUnanswered, WantsAnswer}
-use Rattle.fk_tool.specs.Sessions.{Adds, Answered, AnswersLine, GoesOn, Going, PrintsAnswer, Standing, Stopped, standing_by}
+use Rattle.fk_tool.specs.Private.{IsUnanswered}
+use Rattle.fk_tool.specs.Sessions.{Adds, AnswersLine, GoesOn, Going, PrintsAnswer, Standing, Stopped, standing_by}
 use Rattle.fk_tool.specs.Streams.{AnswersInput, HasDrawn, HasInputCause, HasLines, IsJobLine, SourceView, StopsBehind, Streams, TakesAtMost, last_text, stop_status}
 use Rattle.fk_tool.specs.declared.job.Job.{Job}
 use Rattle.fk_tool.specs.declared.session.Session.{Session}

@@ -1,12 +1,12 @@
 -- What the contracts of the private session over lines speak of. No public contract cites it, so no caller has to believe it.
-use Rattle.std.specs.Prelude.{◌≡◌, ℕ, ◌+◌, ◌≤◌, Bool, true, false, List, [], ◌∷◌, ◌++◌, length, Option, Some, None}
+use Rattle.std.specs.Prelude.{◌≡◌, ℕ, ◌+◌, ◌≤◌, Bool, true, false, List, length, Option, Some, None}
 use Rattle.fk_host.specs.Stream.{Takes}
 use Rattle.fk_input.specs.Lines.{input_limit}
 use Rattle.fk_input.specs.Progress.{HasRead}
 use Rattle.fk_input.specs.Reading.{rest}
 use Rattle.fk_log.specs.Printing.{Prints, SinkView}
 use Rattle.fk_client.specs.Outside.{EntropyView}
-use Rattle.fk_tool.specs.Answers.{AreAnswers, IsAnswer, IsRight}
+use Rattle.fk_tool.specs.Answers.{AreAnswers}
 use Rattle.fk_tool.specs.Private.{IsAnswered, IsUnanswered}
 use Rattle.fk_tool.specs.Streams.{HasDrawn, HasInputCause, HasLines, IsJobLine, Streams, TakesAtMost}
 use Rattle.fk_tool.specs.declared.job.Job.{Job}

@@ -1,4 +1,4 @@
-use Rattle.std.proofs.Common.{◌≡◌, ◌∙◌, subst}
+use Rattle.std.proofs.Common.{◌≡◌, subst}
 use Rattle.fk_fields.specs.declared.fields.Fields.{Fields}
 use Rattle.fk_packet.specs.Packs.{Packs}
 use Rattle.fk_tool.proofs.encoded.encoded_line.Goals as goal

@@ -1,6 +1,6 @@
 use Rattle.std.proofs.Common.{◌++◌, ap, subst, sym, ◌∙◌}
 use Rattle.fk_base.specs.Address.{ip_text}
-use Rattle.fk_tool.specs.Generated.{IsGeneratedDatagram, address_of}
+use Rattle.fk_tool.specs.Generated.{IsGeneratedDatagram}
 use Rattle.fk_tool.proofs.Printed.{line-is}
 use Rattle.fk_tool.proofs.generated.generated_line.Goals as goal
 

@@ -1,4 +1,4 @@
-use Rattle.std.proofs.Common.{◌≡◌, ℕ, ◌+◌, ◌%◌, ◌/◌, map, List, ap, ◌∙◌}
+use Rattle.std.proofs.Common.{ℕ, ◌+◌, ◌%◌, map, List, ap, ◌∙◌}
 use Rattle.fk_tool.specs.Generated.{units}
 use Rattle.fk_tool.proofs.Printed.{digits-once}
 use Rattle.fk_tool.proofs.generated.generated_rand.Goals as goal

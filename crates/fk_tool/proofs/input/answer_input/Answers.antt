@@ -1,4 +1,4 @@
-use Rattle.fk_tool.specs.Sessions.{Going, Standing, Stopped, standing_by}
+use Rattle.fk_tool.specs.Sessions.{Standing, standing_by}
 use Rattle.fk_tool.specs.Streams.{Streams, streams_by}
 use Rattle.fk_tool.proofs.Sessions.{going-new, input-answered}
 use Rattle.fk_tool.proofs.input.answer_input.Goals as goal
