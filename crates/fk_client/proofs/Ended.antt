@@ -265,7 +265,7 @@ client-usage words moment old new answer runs =
 
 -- the file that the words name
 
-not-held : (name other text : List ℕ) (held : Option (List HeldFile)) → other ≡ name → IsSomeAnd held (λ held. bytes_of_file name held ≡ None)
+pub not-held : (name other text : List ℕ) (held : Option (List HeldFile)) → other ≡ name → IsSomeAnd held (λ held. bytes_of_file name held ≡ None)
     → IfSome held (λ held. bytes_of_file other held ≡ Some text) → ⊥
 not-held name other text None names missing told = absurd missing
 not-held name other text (Some held) names missing told =

@@ -1,8 +1,9 @@
 -- A call of the tool in whose way nothing stands ends well, and which words are refused.
-use Rattle.std.proofs.Common.{◌≡◌, ◌≢◌, ◌↔◌, ℕ, Bool, true, false, List, Option, Some, None, IfSome, IsSomeAnd, Result, Ok, Err, IsErr, IsSome, refl, sym, subst, ◌∙◌, inl, inr}
+use Rattle.std.proofs.Common.{◌≡◌, ◌≢◌, ◌↔◌, ℕ, Bool, true, false, List, Option, Some, None, IfSome, IsSomeAnd, Result, Ok, Err, IsErr, IsSome, refl, sym, ap, subst, ◌∙◌, inl, inr}
 use Rattle.fk_base.specs.declared.status.Status.{Status}
 use Rattle.fk_base.specs.declared.status.Status.TheVariants as status
 use Rattle.fk_host.specs.Count.{counted, Rose}
+use Rattle.fk_host.specs.Files.{bytes_of_file}
 use Rattle.fk_host.proofs.Counts.{counted-Rose}
 use Rattle.fk_journal.specs.declared.fault.JournalErr.{JournalErr}
 use Rattle.fk_journal.specs.declared.fault.JournalErr.TheVariants as journal
@@ -24,10 +25,10 @@ use Rattle.fk_conf.specs.RcFault.{rc_fault}
 use Rattle.fk_conf.specs.ReadsRc.{ReadsRc}
 use Rattle.fk_client.specs.Faults.{Fault, fault_status as client_status}
 use Rattle.fk_client.specs.Faults.Fault.{Common, EntropyFails, LacksSetting, LinkFails}
-use Rattle.fk_client.specs.Running.{FindsNoSealing, MakesKeys}
+use Rattle.fk_client.specs.Running.{FindsNoSealing, HasSealing, MakesKeys}
 use Rattle.fk_client.specs.Settle.{sealing_fault}
 use Rattle.fk_client.specs.declared.sealed.Sealing.{Sealing}
-use Rattle.fk_client.proofs.Ended.{held-same, none-told, none-wrong}
+use Rattle.fk_client.proofs.Ended.{held-same, none-told, none-wrong, not-held}
 use Rattle.fk_client.proofs.Needs.{sealing-same}
 use Rattle.fk_input.specs.Lines.{pieces}
 use Rattle.fk_input.specs.declared.fault.Fault.{Fault as LineFault}
@@ -38,7 +39,7 @@ use Rattle.fk_view.proofs.Viewed.{NoneBoth, not_damaged}
 use Rattle.fk_tool.specs.Causes.{FailsByAnswer}
 use Rattle.fk_tool.specs.Lines.{ShowsLines}
 use Rattle.fk_tool.specs.Outside.{Outside, streams_of}
-use Rattle.fk_tool.specs.Ready.{CountsNone, EndsAs, HoldsSealing, IsReadyFor, IsReadyForJob, MeetsNoFault}
+use Rattle.fk_tool.specs.Ready.{CountsNone, EndsAs, HoldsSealing, IsJobBy, IsReadyFor, IsReadyForJob, IsWrongText, MeetsNoFault, NamesNoFile, NamesWrongFile}
 use Rattle.fk_tool.specs.Running.{PrintsJournal, Runs, RunsJob, RunsTool}
 use Rattle.fk_tool.specs.Streams.{HasLines, IsJobLine, ReadsLines, Streams, stop_status}
 use Rattle.fk_tool.specs.declared.job.Job.{Job}
@@ -332,4 +333,108 @@ tool-usage words old new answer runs =
         λ is. absurd (no-usage obeys.command old new answer obeys.runs is),
         λ wrong. absurd (ok-no_err (set_read Fko words) obeys.reads.set obeys.reads.reads wrong),
       )
+    ]
+
+-- the file that the words name
+
+no-file : (file name : List ℕ) (fault : Fault) (old new : FilesView) → IsSomeAnd old.held (λ held. bytes_of_file file held ≡ None) → FindsNoSealing file name fault old new
+    → EndsAs status.FileFault (client_status fault)
+no-file file name (Common (FileNotHeld named)) old new missing fails = inl refl
+no-file file name (Common (FileNotRead named)) old new missing fails = inl refl
+no-file file name (Common (WrongFile named line what)) old new missing fails = absurd (not-held file file fails.1.0 old.held refl missing fails.1.1.held)
+no-file file name (LacksSetting named what) old new missing fails = absurd (not-held file file fails.2.read.text old.held refl missing fails.2.read.read.held)
+no-file file name (Common WantsMemory) old new missing fails = inr refl
+no-file file name (Common (WrongWords why)) old new missing fails = absurd fails
+no-file file name EntropyFails old new missing fails = absurd fails
+no-file file name LinkFails old new missing fails = absurd fails
+
+job-missing : (job : Sealing → Job) (of file by name : List ℕ) (old new : Outside) (answer : Status) → of ≡ file → by ≡ name
+    → IsSomeAnd old.files.held (λ held. bytes_of_file file held ≡ None) → RunsJob job of by old.files new.files (streams_of old) (streams_of new) answer
+    → EndsAs status.FileFault answer
+job-missing job of file by name old new answer same_file same_name missing ran =
+    let runs = job-named job of file by name old.files new.files (streams_of old) (streams_of new) answer same_file same_name ran in
+    elim runs [
+      | inl lacks ↦ subst (EndsAs status.FileFault) (sym lacks.2.told.answered) (no-file file name lacks.0 old.files new.files missing lacks.1)
+      | inr sealed ↦ absurd (not-held file file sealed.1.read.text old.files.held refl missing sealed.1.read.read.held)
+    ]
+
+asked-missing : (asked : Command) (file name : List ℕ) (old new : Outside) (answer : Status) → IsJobBy file name asked
+    → IsSomeAnd old.files.held (λ held. bytes_of_file file held ≡ None) → Runs asked old new answer → EndsAs status.FileFault answer
+asked-missing (command.Encode of by) file name old new answer same missing runs = job-missing Encode of file by name old new answer same.0 same.1 missing runs.1
+asked-missing (command.Decode of by) file name old new answer same missing runs = job-missing Decode of file by name old new answer same.0 same.1 missing runs.1
+asked-missing (command.Generate count) file name old new answer same missing runs = absurd same
+asked-missing command.KeyGen file name old new answer same missing runs = absurd same
+asked-missing command.Journal file name old new answer same missing runs = absurd same
+asked-missing command.Help file name old new answer same missing runs = absurd same
+asked-missing command.Version file name old new answer same missing runs = absurd same
+asked-missing (command.Serve conf access packets turns verbose) file name old new answer same missing runs = absurd runs
+asked-missing (command.Trial conf access quiet verbose) file name old new answer same missing runs = absurd runs
+asked-missing command.List file name old new answer same missing runs = absurd runs
+asked-missing (command.Send send) file name old new answer same missing runs = absurd runs
+
+-- a file that is not held ends the tool as a fault of the files
+pub tool-missing : (words : List (List ℕ)) (old new : Outside) (answer : Status) → RunsTool words old new answer → OneCommand → NamesNoFile words old.files
+    → EndsAs status.FileFault answer
+tool-missing words old new answer runs one names =
+    elim runs [
+      | inl refuses ↦ word-ends words refuses.fault names.asks.command status.FileFault answer refuses.first names.asks.reads refuses.told.answered
+      | inr obeys ↦ asked-missing obeys.command names.file names.name old new answer
+          (subst (IsJobBy names.file names.name) (one words names.asks.command obeys.command names.asks.reads obeys.reads) names.asks.by) names.missing obeys.runs
+    ]
+
+wrong-file : (file name : List ℕ) (fault : Fault) (old new : FilesView) → (Rose old.faults new.faults → ⊥) → FindsNoSealing file name fault old new
+    → EndsAs status.Config (client_status fault)
+wrong-file file name (Common (FileNotHeld named)) old new calm fails = absurd (calm (rose old.faults new.faults (ap (λ (files : FilesView). files.faults) fails.1)))
+wrong-file file name (Common (FileNotRead named)) old new calm fails = absurd (calm (rose old.faults new.faults (ap (λ (files : FilesView). files.faults) fails.1)))
+wrong-file file name (Common (WrongFile named line what)) old new calm fails = inl refl
+wrong-file file name (LacksSetting named what) old new calm fails = inl refl
+wrong-file file name (Common WantsMemory) old new calm fails = inr refl
+wrong-file file name (Common (WrongWords why)) old new calm fails = absurd fails
+wrong-file file name EntropyFails old new calm fails = absurd fails
+wrong-file file name LinkFails old new calm fails = absurd fails
+
+-- a wrong text does not seal
+no-sealing : (file name text : List ℕ) (files : FilesView) (sealing : Sealing) → IsSomeAnd files.held (λ held. bytes_of_file file held ≡ Some text) → IsWrongText name text
+    → HasSealing file name files sealing → ⊥
+no-sealing file name text files sealing held wrong has =
+    let found : has.read.text ≡ text = held-same file file text has.read.text files.held refl held has.read.read.held in
+    let says : ReadsRc text has.stanzas = subst (λ (t : List ℕ). ReadsRc t has.stanzas) found has.read.says in
+    elim wrong [
+      | inl line ↦ line says.faultless
+      | inr lacks ↦ lacks.2 (sym (sealing-same text has.stanzas lacks.0 name says lacks.1) ∙ has.gives.faultless)
+    ]
+
+job-wrong : (job : Sealing → Job) (of file by name text : List ℕ) (old new : Outside) (answer : Status) → of ≡ file → by ≡ name
+    → IsSomeAnd old.files.held (λ held. bytes_of_file file held ≡ Some text) → IsWrongText name text → (Rose old.files.faults new.files.faults → ⊥)
+    → RunsJob job of by old.files new.files (streams_of old) (streams_of new) answer → EndsAs status.Config answer
+job-wrong job of file by name text old new answer same_file same_name held wrong calm ran =
+    let runs = job-named job of file by name old.files new.files (streams_of old) (streams_of new) answer same_file same_name ran in
+    elim runs [
+      | inl lacks ↦ subst (EndsAs status.Config) (sym lacks.2.told.answered) (wrong-file file name lacks.0 old.files new.files calm lacks.1)
+      | inr sealed ↦ absurd (no-sealing file name text old.files sealed.0 held wrong sealed.1)
+    ]
+
+asked-wrong : (asked : Command) (file name text : List ℕ) (old new : Outside) (answer : Status) → IsJobBy file name asked
+    → IsSomeAnd old.files.held (λ held. bytes_of_file file held ≡ Some text) → IsWrongText name text → (Rose old.files.faults new.files.faults → ⊥)
+    → Runs asked old new answer → EndsAs status.Config answer
+asked-wrong (command.Encode of by) file name text old new answer same held wrong calm runs = job-wrong Encode of file by name text old new answer same.0 same.1 held wrong calm runs.1
+asked-wrong (command.Decode of by) file name text old new answer same held wrong calm runs = job-wrong Decode of file by name text old new answer same.0 same.1 held wrong calm runs.1
+asked-wrong (command.Generate count) file name text old new answer same held wrong calm runs = absurd same
+asked-wrong command.KeyGen file name text old new answer same held wrong calm runs = absurd same
+asked-wrong command.Journal file name text old new answer same held wrong calm runs = absurd same
+asked-wrong command.Help file name text old new answer same held wrong calm runs = absurd same
+asked-wrong command.Version file name text old new answer same held wrong calm runs = absurd same
+asked-wrong (command.Serve conf access packets turns verbose) file name text old new answer same held wrong calm runs = absurd runs
+asked-wrong (command.Trial conf access quiet verbose) file name text old new answer same held wrong calm runs = absurd runs
+asked-wrong command.List file name text old new answer same held wrong calm runs = absurd runs
+asked-wrong (command.Send send) file name text old new answer same held wrong calm runs = absurd runs
+
+-- a file whose text is wrong ends the tool as one, unless the files fail
+pub tool-config : (words : List (List ℕ)) (old new : Outside) (answer : Status) → RunsTool words old new answer → OneCommand → NamesWrongFile words old.files
+    → (Rose old.files.faults new.files.faults → ⊥) → EndsAs status.Config answer
+tool-config words old new answer runs one names calm =
+    elim runs [
+      | inl refuses ↦ word-ends words refuses.fault names.asks.command status.Config answer refuses.first names.asks.reads refuses.told.answered
+      | inr obeys ↦ asked-wrong obeys.command names.file names.name names.text old new answer
+          (subst (IsJobBy names.file names.name) (one words names.asks.command obeys.command names.asks.reads obeys.reads) names.asks.by) names.held names.wrong calm obeys.runs
     ]

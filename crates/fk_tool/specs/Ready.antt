@@ -1,10 +1,11 @@
 -- When the tool has to end well, unless memory is wanting.
-use Rattle.std.specs.Prelude.{◌≡◌, ◌⊎◌, ℕ, List, Some, None, IsSomeAnd}
+use Rattle.std.specs.Prelude.{◌≡◌, ◌≢◌, ◌⊎◌, ℕ, List, Some, None, IsSomeAnd}
 use Rattle.fk_base.specs.declared.status.Status.{Status}
 use Rattle.fk_base.specs.declared.status.Status.TheVariants as status
 use Rattle.fk_host.specs.Count.{Rose}
 use Rattle.fk_host.specs.Files.{bytes_of_file}
 use Rattle.fk_input.specs.Lines.{pieces}
+use Rattle.fk_conf.specs.RcFault.{rc_fault}
 use Rattle.fk_conf.specs.ReadsRc.{ReadsRc}
 use Rattle.fk_conf.specs.declared.rc_stanza.RcStanza.{RcStanza}
 use Rattle.fk_words.specs.declared.command.Command.{Command}
@@ -54,6 +55,39 @@ pub record MeetsNoFault (words : List (List ℕ)) (old new : Outside) : Type 0 w
   pub reads : ReadsWords Fko words command
   pub ready : IsReadyFor command old new
   pub counts : CountsNone old new
+
+-- the command is a job over lines by this file and this stanza
+abbrev pub IsJobBy : (file name : List ℕ) → Command → Type 0
+IsJobBy file name (command.Encode of by) = (of ≡ file) × (by ≡ name)
+IsJobBy file name (command.Decode of by) = (of ≡ file) × (by ≡ name)
+IsJobBy file name _ = ⊥
+
+-- the words ask for a job over lines by this file and this stanza
+pub record AsksForJob (words : List (List ℕ)) (file name : List ℕ) : Type 0 where
+  pub command : Command
+  pub reads : ReadsWords Fko words command
+  pub by : IsJobBy file name command
+
+-- the words ask for a job over lines by a file that is not held
+pub record NamesNoFile (words : List (List ℕ)) (files : FilesView) : Type 0 where
+  pub file : List ℕ
+  pub name : List ℕ
+  pub asks : AsksForJob words file name
+  pub missing : IsSomeAnd files.held (λ held. bytes_of_file file held ≡ None)
+
+-- the text has a wrong line, or it says stanzas of which that of this name does not seal
+abbrev pub IsWrongText : (name text : List ℕ) → Type 0
+IsWrongText name text =
+    (rc_fault text ≢ None) ⊎ ((stanzas : List RcStanza) × ReadsRc text stanzas × (sealing_fault stanzas name ≢ None))
+
+-- the words ask for a job over lines by a file that is held, and whose text is wrong
+pub record NamesWrongFile (words : List (List ℕ)) (files : FilesView) : Type 0 where
+  pub file : List ℕ
+  pub name : List ℕ
+  pub asks : AsksForJob words file name
+  pub text : List ℕ
+  pub held : IsSomeAnd files.held (λ held. bytes_of_file file held ≡ Some text)
+  pub wrong : IsWrongText name text
 
 -- the tool ended so, or memory was wanting
 abbrev pub EndsAs : Status → Status → Type 0

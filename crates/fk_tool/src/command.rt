@@ -3,9 +3,11 @@ ghost use Rattle.fk_words.specs.CommandOf.{IsCommandOf};
 ghost use Rattle.fk_words.specs.Limits.{HasLimits};
 ghost use Rattle.fk_words.specs.ReadsWords.{set_read};
 ghost use Rattle.fk_words.specs.declared.tool.Tool.TheVariants.{Fko};
+ghost use Rattle.fk_host.specs.Count.{Rose};
+ghost use Rattle.fk_program.specs.Files.{files_by};
 ghost use Rattle.fk_tool.specs.Causes.{FailsByAnswer};
 ghost use Rattle.fk_tool.specs.Outside.{outside_by};
-ghost use Rattle.fk_tool.specs.Ready.{EndsAs, MeetsNoFault};
+ghost use Rattle.fk_tool.specs.Ready.{EndsAs, MeetsNoFault, NamesNoFile, NamesWrongFile};
 ghost use Rattle.fk_tool.specs.Running.{Runs, RunsTool};
 
 use crate::generating::generate;
@@ -37,6 +39,8 @@ pub fn fko_run<F: Files, N: Entropy, D: Disk, I: Source, K: Sink>(
     ensures runs { let at = outside_by F.Files N.Entropy D.Disk I.Source K.Sink in
         RunsTool words.now (at files.old entropy.old disk.old input.old out.old) (at files.new entropy.new disk.new input.new out.new) result }
     ensures usage { (result ≡ Status.Usage) ↔ IsErr (set_read Fko words.now) }
+    ensures missing { NamesNoFile words.now (files_by F.Files files.old) → EndsAs Status.FileFault result }
+    ensures config { NamesWrongFile words.now (files_by F.Files files.old) → ¬ Rose (F.faults files.old) (F.faults files.new) → EndsAs Status.Config result }
     ensures counts { let at = outside_by F.Files N.Entropy D.Disk I.Source K.Sink in
         FailsByAnswer result (at files.old entropy.old disk.old input.old out.old) (at files.new entropy.new disk.new input.new out.new) }
     ensures complete { let at = outside_by F.Files N.Entropy D.Disk I.Source K.Sink in

@@ -1,6 +1,6 @@
 use Rattle.fk_tool.specs.Outside.{outside_by}
 use Rattle.fk_tool.proofs.Counting.{tool-counts}
-use Rattle.fk_tool.proofs.Ended.{tool-ends, tool-usage}
+use Rattle.fk_tool.proofs.Ended.{tool-config, tool-ends, tool-missing, tool-usage}
 use Rattle.fk_tool.proofs.command.fko_run.Goals as goal
 
 pub returns : goal.returns
@@ -12,9 +12,12 @@ returns g c =
     let answer = c.run_words.result in
     let runs = c.run_words.ensures in
     let counts = tool-counts words old new answer runs in
+    let one = c.tool_words_ask_for_one_command.ensures in
     record {
       runs = runs;
       usage = tool-usage words old new answer runs;
+      missing = tool-missing words old new answer runs one;
+      config = λ names calm. tool-config words old new answer runs one names calm;
       counts = counts;
-      complete = tool-ends words old new answer runs counts c.no_area_holds_two_ledgers.ensures.damaged c.tool_words_ask_for_one_command.ensures;
+      complete = tool-ends words old new answer runs counts c.no_area_holds_two_ledgers.ensures.damaged one;
     }
