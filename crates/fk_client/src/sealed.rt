@@ -1,12 +1,13 @@
 ghost use Rattle.std.proofs.Props.{props};
 ghost use Rattle.std.specs.Prelude.{◌≤◌, IfSome};
 
-use fk_base::{HashKind, Keys};
+use fk_base::HashKind;
+use fk_mac::PreparedKeys;
 
 /// What seals and opens packets.
 #[derive(Drop)]
 pub struct Sealing {
-    pub keys: Keys,
+    pub keys: PreparedKeys,
     /// The hash of the digest in the plaintext.
     pub kind: HashKind,
     /// For how many seconds is asked where the request says none itself.

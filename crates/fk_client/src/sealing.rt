@@ -6,6 +6,7 @@ use crate::stanzas::{find_stanza, key, kind, mac_key, mac_kind, timeout};
 use crate::{NeedFault, Sealing};
 use fk_base::{Bytes, HashKind, Keys};
 use fk_conf::RcFile;
+use fk_mac::PreparedKeys;
 use std::alloc::Global;
 
 /// What the stanza of this name seals by, or what is needed first.
@@ -21,12 +22,13 @@ pub fn find_sealing(alloc: Global, file: &RcFile, name: &[u8]) -> Result<Sealing
     let Some(mac_key) = mac_key(file, name) else {
         return Err(NeedFault::NoHmacKey);
     };
+    let keys = Keys {
+        key: Bytes::copy(alloc, key.as_slice())?,
+        kind: mac_kind(file, name).unwrap_or(HashKind::Sha256),
+        mac_key: Bytes::copy(alloc, mac_key.as_slice())?,
+    };
     Ok(Sealing {
-        keys: Keys {
-            key: Bytes::copy(alloc, key.as_slice())?,
-            kind: mac_kind(file, name).unwrap_or(HashKind::Sha256),
-            mac_key: Bytes::copy(alloc, mac_key.as_slice())?,
-        },
+        keys: PreparedKeys::new(keys),
         kind: kind(file, name).unwrap_or(HashKind::Sha256),
         seconds: timeout(file, name),
     })

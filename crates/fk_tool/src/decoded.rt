@@ -1,19 +1,25 @@
 //! A datagram opened, and its fields told, or why it is refused.
 ghost use Rattle.std.specs.Prelude.{◌≡◌, ◌⊎◌, ◌<◌, ◌++◌, Err, IfOk, MatchResult, Ok, OnOk};
 ghost use Rattle.std.specs.Fmt.{decimal};
+ghost use Rattle.fk_fields.specs.Fields.{IsFields};
 ghost use Rattle.fk_packet.specs.Opens.{unpacked};
 ghost use Rattle.fk_tool.specs.DecodedText.{decoded_line, opened_line, plain_words, refusal_words};
 
-use fk_base::{Bytes, Keys, NoMemory, Steps, put_decimal};
+use fk_base::{Bytes, NoMemory, Steps, put_decimal};
 use fk_codec::{DecodeFault, put_front};
 use fk_fields::Fields;
+use fk_mac::PreparedKeys;
 use fk_packet::{PacketFault, unpack};
 use std::alloc::Global;
 use std::marker::Brand;
 use std::sync::ledger::{Blank, Ledger as Counts};
 
 /// The line of a datagram under the keys.
-pub(crate) fn decoded_line(alloc: Global, keys: &Keys, datagram: &[u8]) -> Result<Bytes, NoMemory>
+pub(crate) fn decoded_line(
+    alloc: Global,
+    keys: &PreparedKeys,
+    datagram: &[u8],
+) -> Result<Bytes, NoMemory>
     ensures { IfOk result (λ line. line ≡ decoded_line keys.now datagram.now) }
 {
     match opened::<Brand>(alloc, keys, datagram, Blank::new(1)) {
@@ -26,14 +32,15 @@ pub(crate) fn decoded_line(alloc: Global, keys: &Keys, datagram: &[u8]) -> Resul
 /// What the datagram opens to. The steps of the cipher are counted, and the count is of no use here.
 fn opened<L: Counts>(
     alloc: Global,
-    keys: &Keys,
+    keys: &PreparedKeys,
     datagram: &[u8],
     blank: Blank,
 ) -> Result<Fields, PacketFault>
     requires name { blank.name ≡ L.name }
     requires parts { blank.parts ≡ L.parts }
     requires some { 0 < L.parts }
-    ensures { MatchResult result
+    ensures checked { IfOk result IsFields }
+    ensures opened { MatchResult result
         (λ fields. unpacked keys.now datagram.now ≡ Ok fields)
         (λ fault. (unpacked keys.now datagram.now ≡ Err fault) ⊎ (fault ≡ PacketFault.NoMemory)) }
 {
@@ -43,6 +50,7 @@ fn opened<L: Counts>(
 
 /// `ok`, and the plaintext without its digest.
 fn fields_line(alloc: Global, fields: &Fields) -> Result<Bytes, NoMemory>
+    requires { IsFields fields.now }
     ensures { IfOk result (λ line. line ≡ opened_line (Ok fields.now)) }
 {
     let mut line = Bytes::copy(alloc, b"ok ")?;

@@ -23,7 +23,7 @@ pub(crate) fn encoded_line(
     ensures { IfOk result (IsEncoded sealing.now (asked_by line.entry) salt) }
 {
     let fields = fields_of(alloc, sealing, line)?;
-    let mut text = pack(alloc, &fields, &sealing.keys, salt)?;
+    let mut text = pack(alloc, &fields, sealing.keys.keys(), salt)?;
     text.append(b"\n")?;
     Ok(text)
 }
