@@ -24,7 +24,7 @@ returns-in-Ok g c =
     let number : OpenRecord → ℕ = λ r. r.id in
     let item : OpenRecord = c.args.item in
     let before : List Change = c.reserve-2.new.self.changes in
-    let lives = live-recorded before item (subst IsLedger made c.in-Ok.ensures.keeps.follow) in
+    let lives = live-recorded before item (subst IsLedger made c.in-Ok.ensures.keeps.follow) (c.if-item-next_id.false ∙ c.next_id.ensures ∙ ap next_id (sym same)) in
     c.push_reserved.ensures.items
     ∙ ap (λ (ids : List ℕ). ids ++ c.in-Ok.new ∷ []) (c.reserve.ensures.items ∙ c.requires.owed ∙ ap live_ids (sym same))
     ∙ ap (λ (n : ℕ). live_ids before ++ n ∷ []) c.in-Ok.ensures.owed
