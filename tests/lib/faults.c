@@ -6,13 +6,18 @@
     FAULTS_START    the moment from which on it does, in whole seconds
     FAULT           KIND:NUMBER:WHAT: what becomes of the call of this number of this kind. A number fails with this number of an
                     error; "h" and a number has half of a write done before it fails so; "s" takes less than is there. Behind a
-                    "+" it holds of every later call of this kind as well.
+                    "+" it holds of every later call of this kind as well. "f" and "l" go on with an open, before which another
+                    program has put a file or a link in the name's place. "v" goes on with a look-up, and puts an address of version 6
+                    of the Internet Protocol before the others. The kind "full" stands for a file system that takes
+                    only so many bytes of writes at a place (pwrite): a write takes what fits, and then each fails with this
+                    error; the trace has a line "room" behind each, with what is left.
 */
 #define _GNU_SOURCE
 #include <dlfcn.h>
 #include <errno.h>
 #include <fcntl.h>
 #include <netdb.h>
+#include <netinet/in.h>
 #include <poll.h>
 #include <spawn.h>
 #include <stdarg.h>
@@ -30,12 +35,15 @@
 
 static const char *KINDS[] = {"open", "read", "pread", "write", "pwrite", "fsync", "fdatasync", "ftruncate", "fchmod", "statx", "flock",
     "fcntl", "socket", "bind", "setsockopt", "recvfrom", "sendto", "poll", "nanosleep", "spawn", "waitpid", "getrlimit", "clock",
-    "close", "lookup", "malloc", 0};
+    "close", "lookup", "malloc", "full", 0};
 enum { OPEN, READ, PREAD, WRITE, PWRITE, FSYNC, FDATASYNC, FTRUNCATE, FCHMOD, STATX, FLOCK,
     FCNTL, SOCKET, BIND, SETSOCKOPT, RECVFROM, SENDTO, POLL, NANOSLEEP, SPAWN, WAITPID, GETRLIMIT, CLOCK,
-    CLOSE, LOOKUP, MALLOC, COUNT };
+    CLOSE, LOOKUP, MALLOC, FULL, COUNT };
 
 static int active, trace = -1, fault_kind = -1, fault_error, fault_half, fault_short, fault_on;
+static char fault_put;
+/* what a full file system still takes; it is not full where this is less than 0 */
+static long room = -1;
 static long fault_number, counts[COUNT], speed = 1;
 static long long start;
 /* the C library itself breaks where memory is wanting in the midst of a look-up */
@@ -77,20 +85,23 @@ static const char *target_of(int fd, char *room, size_t size) {
     return strncmp(room, "socket:", 7) == 0 ? "socket" : last_part(room);
 }
 
+static void write_down(const char *kind, long number, const char *target) {
+    if (trace < 0) return;
+    char line[400], *to = line;
+    to = put(to, kind);
+    *to++ = ' ';
+    to = put_number(to, number);
+    *to++ = ' ';
+    if (strlen(target) < 300) to = put(to, target);
+    *to++ = '\n';
+    syscall(SYS_write, trace, line, to - line);
+}
+
 /* Counts and writes down a call; answers whether it is the one that is meant. */
 static int meant(int kind, const char *target) {
     if (!active) return 0;
     long number = ++counts[kind];
-    if (trace >= 0) {
-        char line[400], *to = line;
-        to = put(to, KINDS[kind]);
-        *to++ = ' ';
-        to = put_number(to, number);
-        *to++ = ' ';
-        if (strlen(target) < 300) to = put(to, target);
-        *to++ = '\n';
-        syscall(SYS_write, trace, line, to - line);
-    }
+    write_down(KINDS[kind], number, target);
     return kind == fault_kind && (number == fault_number || (fault_on && number > fault_number));
 }
 
@@ -104,6 +115,23 @@ static long taken(size_t count) {
     if (fault_short) return count > 1 ? count / 2 : count;
     errno = fault_error;
     return -1;
+}
+
+/* How much of so many bytes a full file system takes, or -1 where nothing fits. */
+static long fitting(size_t count) {
+    if (count > 0 && room == 0) { errno = fault_error; return -1; }
+    if (count > room) count = room;
+    room -= count;
+    write_down("room", room, "left");
+    return count;
+}
+
+/* Puts a file or a link in this name's place, as another program may do at any moment. */
+static void put_there(const char *path) {
+    if (fault_put == 'l') { SYSTEM(symlink, "elsewhere", path); return; }
+    int fd = SYSTEM(open, path, O_WRONLY | O_CREAT | O_EXCL, 0600);
+    SYSTEM(write, fd, "of another", 10);
+    SYSTEM(close, fd);
 }
 
 __attribute__((constructor)) static void begin(void) {
@@ -128,8 +156,10 @@ __attribute__((constructor)) static void begin(void) {
         text += strcspn(text, ":") + 1;
         if (*text == '+') fault_on = 1, text++;
         if (*text == 's') fault_short = 1;
+        else if (*text == 'f' || *text == 'l' || *text == 'v') fault_put = *text;
         else if (*text == 'h') fault_half = 1, fault_error = atoi(text + 1);
         else fault_error = atoi(text);
+        if (fault_kind == FULL) room = fault_number;
     }
     active = 1;
 }
@@ -137,7 +167,10 @@ __attribute__((constructor)) static void begin(void) {
 #define FAILS(kind, fd) if (meant_of(kind, fd)) { errno = fault_error; return -1; }
 
 static int opened(const char *path, int flags, mode_t mode) {
-    if (meant(OPEN, last_part(path))) { errno = fault_error; return -1; }
+    if (meant(OPEN, last_part(path))) {
+        if (!fault_put) { errno = fault_error; return -1; }
+        put_there(path);
+    }
     return SYSTEM(open, path, flags, mode);
 }
 int open(const char *path, int flags, ...) {
@@ -169,6 +202,7 @@ ssize_t pwrite(int fd, const void *from, size_t count, off_t at) {
         if (fault_half && count > 1) SYSTEM(pwrite64, fd, from, count / 2, at);
         long n = taken(count); if (n < 0) return n; count = n;
     }
+    if (room >= 0) { long n = fitting(count); if (n < 0) return n; count = n; }
     return SYSTEM(pwrite64, fd, from, count, at);
 }
 ssize_t pwrite64(int fd, const void *from, size_t count, off64_t at) { return pwrite(fd, from, count, at); }
@@ -260,9 +294,21 @@ int close(int fd) {
     return SYSTEM(close, fd);
 }
 int getaddrinfo(const char *restrict name, const char *restrict service, const struct addrinfo *restrict hints, struct addrinfo **restrict found) {
-    if (meant(LOOKUP, name ? last_part(name) : "none")) { errno = EIO; return -fault_error; }
+    int is_meant = meant(LOOKUP, name ? last_part(name) : "none");
+    if (is_meant && !fault_put) { errno = EIO; return -fault_error; }
     looks_up = 1;
     int status = REAL(getaddrinfo)(name, service, hints, found);
+    if (is_meant && status == 0) {
+        /* as the C library makes them: the address lies behind, in one piece of memory */
+        struct addrinfo *first = calloc(1, sizeof *first + sizeof(struct sockaddr_in6));
+        *first = **found;
+        first->ai_family = AF_INET6, first->ai_addrlen = sizeof(struct sockaddr_in6), first->ai_canonname = 0, first->ai_next = *found;
+        struct sockaddr_in6 *address = (struct sockaddr_in6 *)(first + 1);
+        address->sin6_family = AF_INET6, address->sin6_addr = in6addr_loopback;
+        address->sin6_port = ((struct sockaddr_in *)(*found)->ai_addr)->sin_port;
+        first->ai_addr = (struct sockaddr *)address;
+        *found = first;
+    }
     looks_up = 0;
     return status;
 }

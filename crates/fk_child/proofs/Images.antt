@@ -7,7 +7,7 @@ use Rattle.std.proofs.lemmas.List.{take_all}
 use Rattle.std.proofs.lemmas.List.Elements.{All-append, All-from_recursion}
 use Rattle.fk_trace.specs.declared.change.Change.{Change}
 use Rattle.fk_trace.specs.Trace.{Event, Item}
-use Rattle.fk_trace.specs.Ledger.{after}
+use Rattle.fk_trace.specs.Ledger.{after, AreNoFloors}
 use Rattle.fk_trace.proofs.Ledgers.{after-append}
 use Rattle.fk_run.specs.Left.{IsCutAt, MayStandBefore}
 use Rattle.fk_run.proofs.Cutting.{cut-later, cut-earlier, recursion-joined, take-within}
@@ -16,8 +16,8 @@ use Rattle.fk_host.specs.Host.{Brings, items_of}
 use Rattle.fk_ledger.specs.Holds.{HoldsState, KeepsLedger}
 use Rattle.fk_ledger.specs.Stretch.{Stretch}
 use Rattle.fk_ledger.proofs.StretchLaws.{left_stretch, left_keeps, image_holds}
-use Rattle.fk_journal.specs.Keeps.{LeavesOthers}
-use Rattle.fk_child.specs.View.{View, MakesCalls, SparesOthers, AddsItems, HoldsFront, Moments, made_of, Adds}
+use Rattle.fk_journal.specs.Keeps.{selected_area, LeavesOthers}
+use Rattle.fk_child.specs.View.{View, MakesCalls, SelectsTheSame, SparesOthers, AddsItems, HoldsFront, Moments, Adds}
 use Rattle.fk_child.proofs.Others.{others-left, others-told}
 use Rattle.fk_child.proofs.Counts.{pairs-cons}
 use Rattle.fk_child.proofs.Pieces.{pairs-head, pairs-tail, recursion-weaker}
@@ -143,15 +143,40 @@ quiet-told items ledger images images' old new stretch =
 spares : (images images' : ℕ → Areas → Type 0) (old new : Option Told) → IfTold old new (LeavesAreas images images') → IfTold old new (LeavesOthers images images')
 spares images images' old new left = if_told_map old new (LeavesAreas images images') (LeavesOthers images images') (others-left images images') left
 
+-- calls that leave the areas leave what Head selects
+left-selects : (images images' : ℕ → Areas → Type 0) (old new : Option Told) → IfTold old new (LeavesAreas images images') → IfTold old new (λ before later. selected_area later.areas ≡ selected_area before.areas)
+left-selects images images' old new left =
+    if_told_map old new (LeavesAreas images images') (λ before later. selected_area later.areas ≡ selected_area before.areas) (λ x y l. ap selected_area l.reads) left
+
+pub selects-brought : (event : Option Event) (old new : View) → IfTold old.told new.told (Brings event new.faults old.images new.images) → SelectsTheSame old new
+selects-brought event old new call = left-selects old.images new.images old.told new.told (told-leaves event new.faults old.images new.images old.told new.told call)
+
+selects-same : (told : Option Told) → IfTold told told (λ before later. selected_area later.areas ≡ selected_area before.areas)
+selects-same None = tt
+selects-same (Some now) = refl
+
+pub selects-none : (view : View) → SelectsTheSame view view
+selects-none view = selects-same view.told
+
+selects-told : (old mid new : Option Told) → IfTold old mid (λ before later. selected_area later.areas ≡ selected_area before.areas)
+    → IfTold mid new (λ before later. selected_area later.areas ≡ selected_area before.areas) → IfTold old new (λ before later. selected_area later.areas ≡ selected_area before.areas)
+selects-told old mid None first second = tt
+selects-told old None (Some z) first second = absurd second
+selects-told None (Some y) (Some z) first second = absurd first
+selects-told (Some x) (Some y) (Some z) first second = second ∙ first
+
+pub selects-then : (old mid new : View) → SelectsTheSame old mid → SelectsTheSame mid new → SelectsTheSame old new
+selects-then old mid new first second = selects-told old.told mid.told new.told first second
+
 -- a call above the disk adds what it brought
 pub adds-brought : (event : Option Event) (ledger : List Change) (old new : View) → IfTold old.told new.told (Brings event new.faults old.images new.images)
-    → new.faults ≡ old.faults → KeepsLedger ledger old.told old.images → Adds (brought event new) ledger [] true old new
+    → new.faults ≡ old.faults → KeepsLedger ledger old.told old.images → Adds (brought event new) ledger [] [] old new
 adds-brought event ledger old new call disk keeps = record {
   trace = told-items event new.faults old.images new.images old.told new.told call;
   moments = quiet-told (brought event new) ledger old.images new.images old.told new.told
       (left_stretch old.told new.told ledger old.images new.images keeps (told-leaves event new.faults old.images new.images old.told new.told call));
   faults = same-faults event (moment_of new.told) new.faults old.faults disk;
-  others = spares old.images new.images old.told new.told (told-leaves event new.faults old.images new.images old.told new.told call);
+  others = λ none. spares old.images new.images old.told new.told (told-leaves event new.faults old.images new.images old.told new.told call);
 }
 
 -- no call adds nothing
@@ -173,13 +198,13 @@ none-leaves images (Some now) = record {
   each = λ k image low high at. absurd (omega arith);
 }
 
-pub adds-none : (ledger : List Change) (view : View) → KeepsLedger ledger view.told view.images → Adds [] ledger [] true view view
+pub adds-none : (ledger : List Change) (view : View) → KeepsLedger ledger view.told view.images → Adds [] ledger [] [] view view
 adds-none ledger view keeps = record {
   trace = no-items view.told view.told (none-told view.told);
   moments = quiet-told [] ledger view.images view.images view.told view.told
       (left_stretch view.told view.told ledger view.images view.images keeps (none-leaves view.images view.told));
   faults = tt;
-  others = spares view.images view.images view.told view.told (none-leaves view.images view.told);
+  others = λ none. spares view.images view.images view.told view.told (none-leaves view.images view.told);
 }
 
 -- ---- a call that changes the ledger
@@ -188,48 +213,73 @@ adds-none ledger view keeps = record {
 any-cut : (k : ℕ) (changes : List Change) (n : ℕ) → IsCutAt k [] changes n
 any-cut k changes n = record { changes_before_attempts = inr tt; others_before_changes = inr tt }
 
-change-last : (ledger : List Change) (change : Change) (whole : Bool) (old new : ℕ → Areas → Type 0) (x y : Told) → KeepsLedger ledger (Some x) old → Stretch ledger (change ∷ []) whole old new x y
-    → (image : Areas) → new y.moments image → HoldsFront [] ledger (change ∷ []) (made_of whole (change ∷ [])) y.moments image
-change-last ledger change true old new x y keeps stretch image here =
-    record { count = 1; enough = omega arith; cut = any-cut y.moments (change ∷ []) 1; holds = stretch.all refl image here }
-change-last ledger change false old new x y keeps stretch image here =
+-- the changes were made
+made-moments : (ledger changes : List Change) (old new : ℕ → Areas → Type 0) (x y : Told) → Stretch ledger changes true old new x y → Moments (HoldsFront [] ledger changes) (length changes) old new x y
+made-moments ledger changes old new x y stretch = record {
+  later = stretch.later;
+  past = stretch.past;
+  each = λ k image behind upto here.
+      let front = stretch.each k image behind upto here in
+      record { count = front.0; enough = omega arith; cut = any-cut k changes front.0; holds = front.1 };
+  last = λ image here. record {
+    count = length changes;
+    enough = omega arith;
+    cut = any-cut y.moments changes (length changes);
+    holds = subst (λ (cs : List Change). HoldsState (after ledger cs) image) (sym (take_all (length changes) changes (omega arith))) (stretch.all refl image here);
+  };
+}
+
+-- or the call that was to make them failed
+failing-last : (ledger changes : List Change) (old new : ℕ → Areas → Type 0) (x y : Told) → KeepsLedger ledger (Some x) old → Stretch ledger changes false old new x y
+    → (image : Areas) → new y.moments image → HoldsFront [] ledger changes 0 y.moments image
+failing-last ledger changes old new x y keeps stretch image here =
     elim (cases_lt x.moments y.moments) [
       | inl moved ↦
           let front = stretch.each y.moments image moved (omega arith) here in
-          record { count = front.0; enough = omega arith; cut = any-cut y.moments (change ∷ []) front.0; holds = front.1 }
+          record { count = front.0; enough = omega arith; cut = any-cut y.moments changes front.0; holds = front.1 }
       | inr still ↦
           let same : y.moments ≡ x.moments = omega (arith, still, stretch.later) in
           record {
             count = 0;
             enough = omega arith;
-            cut = any-cut y.moments (change ∷ []) 0;
+            cut = any-cut y.moments changes 0;
             holds = image_holds ledger x old keeps image ((stretch.past x.moments image (omega arith)).0 (subst (λ (n : ℕ). new n image) same here));
           }
     ]
 
-change-moments : (ledger : List Change) (change : Change) (whole : Bool) (old new : ℕ → Areas → Type 0) (x y : Told) → KeepsLedger ledger (Some x) old → Stretch ledger (change ∷ []) whole old new x y
-    → Moments (HoldsFront [] ledger (change ∷ [])) (made_of whole (change ∷ [])) old new x y
-change-moments ledger change whole old new x y keeps stretch = record {
+failing-moments : (ledger changes : List Change) (old new : ℕ → Areas → Type 0) (x y : Told) → KeepsLedger ledger (Some x) old → Stretch ledger changes false old new x y
+    → Moments (HoldsFront [] ledger changes) 0 old new x y
+failing-moments ledger changes old new x y keeps stretch = record {
   later = stretch.later;
   past = stretch.past;
   each = λ k image behind upto here.
       let front = stretch.each k image behind upto here in
-      record { count = front.0; enough = omega arith; cut = any-cut k (change ∷ []) front.0; holds = front.1 };
-  last = change-last ledger change whole old new x y keeps stretch;
+      record { count = front.0; enough = omega arith; cut = any-cut k changes front.0; holds = front.1 };
+  last = failing-last ledger changes old new x y keeps stretch;
 }
 
-change-told : (ledger : List Change) (change : Change) (whole : Bool) (images images' : ℕ → Areas → Type 0) (old new : Option Told) → KeepsLedger ledger old images
-    → IfTold old new (Stretch ledger (change ∷ []) whole images images') → IfTold old new (Moments (HoldsFront [] ledger (change ∷ [])) (made_of whole (change ∷ [])) images images')
-change-told ledger change whole images images' old None keeps stretch = tt
-change-told ledger change whole images images' None (Some y) keeps stretch = absurd stretch
-change-told ledger change whole images images' (Some x) (Some y) keeps stretch = change-moments ledger change whole images images' x y keeps stretch
+failing-told : (ledger changes : List Change) (images images' : ℕ → Areas → Type 0) (old new : Option Told) → KeepsLedger ledger old images
+    → IfTold old new (Stretch ledger changes false images images') → IfTold old new (Moments (HoldsFront [] ledger changes) 0 images images')
+failing-told ledger changes images images' old None keeps stretch = tt
+failing-told ledger changes images images' None (Some y) keeps stretch = absurd stretch
+failing-told ledger changes images images' (Some x) (Some y) keeps stretch = failing-moments ledger changes images images' x y keeps stretch
 
-pub adds-change : (ledger : List Change) (change : Change) (whole : Bool) (old new : View) → KeepsLedger ledger old.told old.images
-    → IfTold old.told new.told (λ before later. later.trace ≡ before.trace)
-    → IfTold old.told new.told (Stretch ledger (change ∷ []) whole old.images new.images) → SparesOthers old new → Adds [] ledger (change ∷ []) whole old new
-adds-change ledger change whole old new keeps trace stretch others = record {
+pub adds-made : (ledger changes : List Change) (old new : View) → IfTold old.told new.told (λ before later. later.trace ≡ before.trace)
+    → IfTold old.told new.told (Stretch ledger changes true old.images new.images) → (AreNoFloors changes → SparesOthers old new) → Adds [] ledger changes [] old new
+adds-made ledger changes old new trace stretch others = record {
   trace = no-items old.told new.told trace;
-  moments = change-told ledger change whole old.images new.images old.told new.told keeps stretch;
+  moments = subst (λ (cs : List Change). IfTold old.told new.told (Moments (HoldsFront [] ledger cs) (length changes) old.images new.images)) (sym (append-nil changes))
+      (if_told_map old.told new.told (Stretch ledger changes true old.images new.images) (Moments (HoldsFront [] ledger changes) (length changes) old.images new.images)
+      (λ x y s. made-moments ledger changes old.images new.images x y s) stretch);
+  faults = tt;
+  others = λ none. others (subst AreNoFloors (append-nil changes) none);
+}
+
+pub adds-failing : (ledger changes : List Change) (old new : View) → KeepsLedger ledger old.told old.images → IfTold old.told new.told (λ before later. later.trace ≡ before.trace)
+    → IfTold old.told new.told (Stretch ledger changes false old.images new.images) → (AreNoFloors changes → SparesOthers old new) → Adds [] ledger [] changes old new
+adds-failing ledger changes old new keeps trace stretch others = record {
+  trace = no-items old.told new.told trace;
+  moments = failing-told ledger changes old.images new.images old.told new.told keeps stretch;
   faults = tt;
   others = others;
 }
@@ -275,14 +325,10 @@ module _ (xs ys : List Item) (ledger a b : List Change) (order : MayStandBefore 
   front-weaker : (low high k : ℕ) (image : Areas) → low ≤ high → HoldsFront (xs ++ ys) ledger (a ++ b) high k image → HoldsFront (xs ++ ys) ledger (a ++ b) low k image
   front-weaker low high k image l front = record { count = front.count; enough = let e = front.enough in omega (arith, l, e); cut = front.cut; holds = front.holds }
 
-  made-joined : (whole : Bool) → made_of whole (a ++ b) ≤ length a + made_of whole b
-  made-joined true = let l = length-append a b in omega (arith, l)
-  made-joined false = let l = length-append a b in omega (arith, l)
-
-  moments-then : (whole : Bool) (p q r : ℕ → Areas → Type 0) (x y z : Told) → AddsItems xs x y → AddsItems ys y z
-      → Moments (HoldsFront xs ledger a) (length a) p q x y → Moments (HoldsFront ys (after ledger a) b) (made_of whole b) q r y z
-      → Moments (HoldsFront (xs ++ ys) ledger (a ++ b)) (made_of whole (a ++ b)) p r x z
-  moments-then whole p q r x y z m n first second =
+  moments-then : (least : ℕ) (p q r : ℕ → Areas → Type 0) (x y z : Told) → AddsItems xs x y → AddsItems ys y z
+      → Moments (HoldsFront xs ledger a) (length a) p q x y → Moments (HoldsFront ys (after ledger a) b) least q r y z
+      → Moments (HoldsFront (xs ++ ys) ledger (a ++ b)) (length a + least) p r x z
+  moments-then least p q r x y z m n first second =
       let done : (k : ℕ) → y.moments ≤ k → AllByRecursion (λ item. item.moments ≤ k) xs =
       λ k l. recursion-weaker (λ (item : Item). (x.moments < item.moments) × (item.moments ≤ y.moments)) (λ item. item.moments ≤ k) (λ item h. let u = h.1 in omega (arith, u, l)) xs m.placed in
       let ahead : (k : ℕ) → k ≤ y.moments → AllByRecursion (λ item. k < item.moments) ys =
@@ -295,30 +341,43 @@ module _ (xs ys : List Item) (ledger a b : List Change) (order : MayStandBefore 
               | inl later ↦ front-weaker 0 (length a + 0) k image (omega arith) (front-later 0 k image (done k (omega (arith, later))) (second.each k image later upto left))
               | inr before ↦ front-earlier k image (ahead k before) (first.each k image behind before ((second.past k image before).0 left))
             ];
-        last = λ image left.
-            front-weaker (made_of whole (a ++ b)) (length a + made_of whole b) z.moments image (made-joined whole)
-            (front-later (made_of whole b) z.moments image (done z.moments second.later) (second.last image left));
+        last = λ image left. front-later least z.moments image (done z.moments second.later) (second.last image left);
       }
 
-  items-told : (whole : Bool) (p q r : ℕ → Areas → Type 0) (s t u : Option Told) → IfTold s t (AddsItems xs) → IfTold t u (AddsItems ys)
-      → IfTold s t (Moments (HoldsFront xs ledger a) (length a) p q) → IfTold t u (Moments (HoldsFront ys (after ledger a) b) (made_of whole b) q r)
-      → IfTold s u (AddsItems (xs ++ ys)) × IfTold s u (Moments (HoldsFront (xs ++ ys) ledger (a ++ b)) (made_of whole (a ++ b)) p r)
-  items-told whole p q r s t None m n first second = (tt, tt)
-  items-told whole p q r s None (Some z) m n first second = absurd n
-  items-told whole p q r None (Some y) (Some z) m n first second = absurd m
-  items-told whole p q r (Some x) (Some y) (Some z) m n first second =
-      (items-then xs ys x y z m first.later n second.later, moments-then whole p q r x y z m n first second)
+  items-told : (least : ℕ) (p q r : ℕ → Areas → Type 0) (s t u : Option Told) → IfTold s t (AddsItems xs) → IfTold t u (AddsItems ys)
+      → IfTold s t (Moments (HoldsFront xs ledger a) (length a) p q) → IfTold t u (Moments (HoldsFront ys (after ledger a) b) least q r)
+      → IfTold s u (AddsItems (xs ++ ys)) × IfTold s u (Moments (HoldsFront (xs ++ ys) ledger (a ++ b)) (length a + least) p r)
+  items-told least p q r s t None m n first second = (tt, tt)
+  items-told least p q r s None (Some z) m n first second = absurd n
+  items-told least p q r None (Some y) (Some z) m n first second = absurd m
+  items-told least p q r (Some x) (Some y) (Some z) m n first second =
+      (items-then xs ys x y z m first.later n second.later, moments-then least p q r x y z m n first second)
 
-  -- calls that adjoin add up, where the first were whole
-  pub adds-append : (whole : Bool) (first second third : View) → Adds xs ledger a true first second → second.faults ≡ first.faults → Adds ys (after ledger a) b whole second third
-      → Adds (xs ++ ys) ledger (a ++ b) whole first third
-  adds-append whole first second third s disk t =
-      let both = items-told whole first.images second.images third.images first.told second.told third.told s.trace t.trace s.moments t.moments in
-      record {
-        trace = both.0;
-        moments = both.1;
-        faults = recursion-joined (λ (item : Item). item.faults ≡ first.faults) xs ys s.faults
-            (recursion-weaker (λ (item : Item). item.faults ≡ second.faults) (λ item. item.faults ≡ first.faults) (λ item e. e ∙ disk) ys t.faults);
-        others = others-told (HoldsFront xs ledger a) (HoldsFront ys (after ledger a) b) (length a) (made_of whole b) first.images second.images third.images first.told second.told third.told
-            s.moments t.moments s.others t.others;
-      }
+-- of a list without Floors each part has none
+pub floors-left : (a b : List Change) → AreNoFloors (a ++ b) → AreNoFloors a
+floors-left [] b none = tt
+floors-left (change ∷ a) b none = (none.0, floors-left a b none.1)
+
+pub floors-right : (a b : List Change) → AreNoFloors (a ++ b) → AreNoFloors b
+floors-right [] b none = none
+floors-right (change ∷ a) b none = floors-right a b none.1
+
+-- calls that adjoin add up, where none of the first failed
+pub adds-append : (xs ys : List Item) (ledger a b failing : List Change) → MayStandBefore xs a ys (b ++ failing) → (first second third : View) → Adds xs ledger a [] first second → second.faults ≡ first.faults
+    → Adds ys (after ledger a) b failing second third → Adds (xs ++ ys) ledger (a ++ b) failing first third
+adds-append xs ys ledger a b failing order first second third s disk t =
+    let front : IfTold first.told second.told (Moments (HoldsFront xs ledger a) (length a) first.images second.images) =
+    subst (λ (cs : List Change). IfTold first.told second.told (Moments (HoldsFront xs ledger cs) (length a) first.images second.images)) (append-nil a) s.moments in
+    let both = items-told xs ys ledger a (b ++ failing) order (length b) first.images second.images third.images first.told second.told third.told s.trace t.trace front t.moments in
+    let joined : IfTold first.told third.told (Moments (HoldsFront (xs ++ ys) ledger ((a ++ b) ++ failing)) (length a + length b) first.images third.images) =
+    subst (λ (cs : List Change). IfTold first.told third.told (Moments (HoldsFront (xs ++ ys) ledger cs) (length a + length b) first.images third.images)) (sym (append_assoc a b failing)) both.1 in
+    record {
+      trace = both.0;
+      moments = subst (λ (n : ℕ). IfTold first.told third.told (Moments (HoldsFront (xs ++ ys) ledger ((a ++ b) ++ failing)) n first.images third.images)) (sym (length-append a b)) joined;
+      faults = recursion-joined (λ (item : Item). item.faults ≡ first.faults) xs ys s.faults
+          (recursion-weaker (λ (item : Item). item.faults ≡ second.faults) (λ item. item.faults ≡ first.faults) (λ item e. e ∙ disk) ys t.faults);
+      others = λ none.
+          let parts : AreNoFloors (a ++ (b ++ failing)) = subst AreNoFloors (append_assoc a b failing) none in
+          others-told (HoldsFront xs ledger (a ++ [])) (HoldsFront ys (after ledger a) (b ++ failing)) (length a) (length b) first.images second.images third.images first.told second.told third.told
+          s.moments t.moments (s.others (subst AreNoFloors (sym (append-nil a)) (floors-left a (b ++ failing) parts))) (t.others (floors-right a (b ++ failing) parts));
+    }

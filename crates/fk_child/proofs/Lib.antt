@@ -12,3 +12,4 @@ pub mod Closes
 pub mod Settles
 pub mod Turns
 pub mod Served
+pub mod Rises

@@ -71,7 +71,7 @@ module _ (id due : ℕ) (item : OpenRecord) (place : Place) (crew : CrewState) (
 -- what is said of an attempt speaks of the crew after it, and of the host before it
 goes-from : (count moment : ℕ) (place : Place) (items : List Item) (crew crew0 : CrewState) (host : View) (new : CrewHost) → Goes count moment place items (with_host crew host) new
     → Goes count moment place items (with_host crew0 host) new
-goes-from count moment place items crew crew0 host new goes = record { calls = goes.calls; adds = goes.adds; disk = goes.disk; stands = goes.stands }
+goes-from count moment place items crew crew0 host new goes = record { calls = goes.calls; adds = goes.adds; selects = goes.selects; disk = goes.disk; stands = goes.stands }
 
 pub attempts-from : (purpose : Purpose) (words : List (List ℕ)) (result : Result Bool NoMemory) (place : Place) (crew crew0 : CrewState) (host : View) (new : CrewHost)
     → Attempts purpose words result place (with_host crew host) new → Attempts purpose words result place (with_host crew0 host) new

@@ -3,10 +3,10 @@ use Rattle.std.proofs.Common.{◌≡◌, ℕ, ◌≤◌, Option, Some, None, ref
 use Rattle.std.proofs.lemmas.Bool.{cases_lt}
 use Rattle.fk_host.specs.declared.disk.Area.{Area}
 use Rattle.fk_host.specs.Disk.{Areas, Told, IfTold, KeepsPast, LeavesAreas, area_of}
-use Rattle.fk_journal.specs.Keeps.{selected_area, LeavesAllBut, LeavesOthers}
-use Rattle.fk_journal.proofs.Areas.{still_selects, stands_kept}
+use Rattle.fk_journal.specs.Keeps.{selected_area, StandsOn, LeavesAllBut, LeavesOthers}
+use Rattle.fk_journal.proofs.Areas.{still_selects}
 use Rattle.fk_ledger.specs.Book.{Book}
-use Rattle.fk_child.specs.View.{View, Moments, StandsOnArea, SparesOthers}
+use Rattle.fk_child.specs.View.{View, Moments, StandsOnArea, SelectsTheSame, SparesOthers}
 
 pub others-left : (old new : ℕ → Areas → Type 0) (x y : Told) → LeavesAreas old new x y → LeavesOthers old new x y
 others-left old new x y left = record {
@@ -49,7 +49,21 @@ others-told First Second m n p q r s None (Some z) a b c d = absurd b
 others-told First Second m n p q r None (Some y) (Some z) a b c d = absurd a
 others-told First Second m n p q r (Some x) (Some y) (Some z) a b c d = others-then p q r x y z a.later a.past b.past c d
 
--- a ledger goes on to stand on its area where the calls leave the others
-pub area-kept : (old_book new_book : Book) (old new : View) → new_book.area ≡ old_book.area → SparesOthers old new → StandsOnArea old_book.area old → StandsOnArea new_book.area new
-area-kept old_book new_book old new same spares stands =
-    subst (λ (area : Area). StandsOnArea area new) (sym same) (stands_kept old_book.area old.images new.images old.told new.told spares stands)
+-- Head selects the same area where the others are left, since it is one of them
+selects-told : (old new : ℕ → Areas → Type 0) (first last : Option Told) → IfTold first last (LeavesOthers old new) → IfTold first last (λ before later. selected_area later.areas ≡ selected_area before.areas)
+selects-told old new first None spares = tt
+selects-told old new None (Some y) spares = absurd spares
+selects-told old new (Some x) (Some y) spares = still_selects (selected_area x.areas) x.areas y.areas refl spares.reads
+
+pub others-select : (old new : View) → SparesOthers old new → SelectsTheSame old new
+others-select old new spares = selects-told old.images new.images old.told new.told spares
+
+-- a ledger goes on to stand on its area where the calls leave what Head selects
+stands-still : (area : Area) (old new : Option Told) → IfTold old new (λ before later. selected_area later.areas ≡ selected_area before.areas) → StandsOn area old → StandsOn area new
+stands-still area old None same stands = tt
+stands-still area None (Some y) same stands = absurd same
+stands-still area (Some x) (Some y) same stands = same ∙ stands
+
+pub area-kept : (old_book new_book : Book) (old new : View) → new_book.area ≡ old_book.area → SelectsTheSame old new → StandsOnArea old_book.area old → StandsOnArea new_book.area new
+area-kept old_book new_book old new same selects stands =
+    subst (λ (area : Area). StandsOnArea area new) (sym same) (stands-still old_book.area old.told new.told selects stands)

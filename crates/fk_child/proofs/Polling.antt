@@ -15,7 +15,7 @@ use Rattle.fk_child.specs.Crew.{CrewState, CrewHost, StandsAt}
 use Rattle.fk_child.specs.Calls.{PollsAll, ends_in, end_item, polled_number}
 use Rattle.fk_child.specs.Private.{with_children, StandsPolling, PollsNext, MayPoll, PartlyPolled}
 use Rattle.fk_child.proofs.Counts.{runs-few, owed-few}
-use Rattle.fk_child.proofs.Images.{adds-none, adds-append, calls-none, calls-then, calls-same}
+use Rattle.fk_child.proofs.Images.{adds-none, adds-append, selects-none, selects-then, calls-none, calls-then, calls-same}
 use Rattle.fk_child.proofs.Ties.{running-rising}
 
 ends_after-append : (moment : ℕ) (ends : List ℕ) (a b : List Item) → ends_after moment ends (a ++ b) ≡ ends_after moment (ends_after moment ends a) b
@@ -70,6 +70,7 @@ module _ (moment : ℕ) (place : Place) (old : CrewHost) (stands : StandsAt old 
     answered = tt;
     calls = calls-none old.host;
     adds = adds-none place.ledger old.host stands.keeps;
+    selects = selects-none old.host;
     disk = refl;
     stands = record {
       queue = holds ∙ stands.tied.runs ∙ sym (append-nil (running place.past));
@@ -128,7 +129,8 @@ module _ (moment : ℕ) (place : Place) (old : CrewHost) (stands : StandsAt old 
         answered = AllZip-joined (λ (c : Child) (item : Item). IsPollOf c item.event) part.polled part.items child one.item part.answered one.polled;
         calls = calls-same (length part.items + 1) (length (part.items ++ one.item ∷ [])) old.host next.host (let n = length_push part.items one.item in omega (arith, n))
             (calls-then (length part.items) 1 old.host now.host next.host part.calls one.calls);
-        adds = adds-append part.items (one.item ∷ []) place.ledger [] [] (record { attempts = inl refl; others = inl refl }) true old.host now.host next.host part.adds part.disk one.adds;
+        adds = adds-append part.items (one.item ∷ []) place.ledger [] [] [] (record { attempts = inl refl; others = inl refl }) old.host now.host next.host part.adds part.disk one.adds;
+        selects = selects-then old.host now.host next.host part.selects one.selects;
         disk = one.disk ∙ part.disk;
         stands = subst (StandsPolling rest one.found next) here one.stands;
         ends = one.ends ∙ ap (λ (es : List EndItem). es ++ ends_in past (one.item ∷ [])) part.ends ∙ sym (ends_in-append place.past part.items (one.item ∷ []));
@@ -164,6 +166,7 @@ module _ (moment : ℕ) (place : Place) (old : CrewHost) (stands : StandsAt old 
         goes = record {
           calls = part.calls;
           adds = part.adds;
+          selects = part.selects;
           disk = part.disk;
           stands = subst (λ (cs : List Child). StandsAt (with_children cs now) (behind moment place part.items)) whole at.stands;
         };

@@ -169,6 +169,7 @@ module _ (moment : ℕ) (place : Place) (child : Child) (rest found : List Child
         polled = polled;
         calls = goes.calls;
         adds = goes.adds;
+        selects = goes.selects;
         disk = disk;
         found = found ++ child ∷ [];
         stands = record { queue = holds; stands = goes.stands };
@@ -245,6 +246,7 @@ module _ (moment : ℕ) (place : Place) (child : Child) (rest found : List Child
           polled = refl;
           calls = goes.calls;
           adds = goes.adds;
+          selects = goes.selects;
           disk = disk;
           found = found;
           stands = record { queue = holds; stands = goes.stands };

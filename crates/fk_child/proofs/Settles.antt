@@ -21,7 +21,8 @@ use Rattle.fk_child.specs.View.{View, MakesCalls, Adds, SparesOthers}
 use Rattle.fk_child.specs.Crew.{CrewState, IsTied, StandsAt, obligation_of, obligations_but}
 use Rattle.fk_child.specs.Calls.{SettlesFirst, FailsToSettle}
 use Rattle.fk_child.proofs.Pieces.{pairs-head, pairs-tail, remove-distinct}
-use Rattle.fk_child.proofs.Images.{adds-change}
+use Rattle.fk_child.proofs.Images.{adds-made, adds-failing}
+use Rattle.fk_child.proofs.Others.{others-select}
 use Rattle.fk_child.proofs.Counts.{pairs-cons}
 use Rattle.fk_child.proofs.Records.{live-apart}
 use Rattle.fk_child.proofs.Ties.{with_host}
@@ -81,12 +82,11 @@ module _ (crew : CrewState) (above : Above) (place : Place) (tied : IsTied crew 
 
 module _ (crew crew' : CrewState) (old new : View) (place : Place) (book book' : Book) (id owed : ℕ) (e : place.ledger ≡ book.changes) (same : owed ≡ id)
     (trace : IfTold old.told new.told (λ before later. later.trace ≡ before.trace)) (spares : SparesOthers old new) where
-  adds-settled : (whole : Bool) → KeepsLedger place.ledger old.told old.images → IfTold old.told new.told (Stretch book.changes (Done owed ∷ []) whole old.images new.images)
-      → Adds [] place.ledger (Done id ∷ []) whole old new
-  adds-settled whole keeps stretch =
-      subst (λ (n : ℕ). Adds [] place.ledger (Done n ∷ []) whole old new) same
-      (adds-change place.ledger (Done owed) whole old new keeps trace
-      (subst (λ (l : List Change). IfTold old.told new.told (Stretch l (Done owed ∷ []) whole old.images new.images)) (sym e) stretch) spares)
+  stretch-settled : (whole : Bool) → IfTold old.told new.told (Stretch book.changes (Done owed ∷ []) whole old.images new.images)
+      → IfTold old.told new.told (Stretch place.ledger (Done id ∷ []) whole old.images new.images)
+  stretch-settled whole stretch =
+      subst (λ (n : ℕ). IfTold old.told new.told (Stretch place.ledger (Done n ∷ []) whole old.images new.images)) same
+      (subst (λ (l : List Change). IfTold old.told new.told (Stretch l (Done owed ∷ []) whole old.images new.images)) (sym e) stretch)
 
   -- the first of the records is settled
   pub settles-first : (index : ℕ) (others : List ℕ) → StandsAt (with_host crew old) place → crew.unsettled ≡ id ∷ others → slice_get crew.owed index ≡ Some id
@@ -102,7 +102,8 @@ module _ (crew crew' : CrewState) (old new : View) (place : Place) (book book' :
         first = first ∙ ap (λ (ids : List ℕ). id ∷ ids) (sym waits);
         book = changes';
         calls = calls;
-        adds = adds-settled true at.keeps stretch;
+        adds = adds-made place.ledger (Done id ∷ []) old new trace (stretch-settled true stretch) (λ none. spares);
+        selects = others-select old new spares;
         disk = disk;
         stands = record {
           tied = subst (λ (a : Above). IsTied crew' a (changed place (Done id ∷ []))) (sym above)
@@ -122,7 +123,7 @@ module _ (crew crew' : CrewState) (old new : View) (place : Place) (book book' :
         first = first ∙ ap (λ (ids : List ℕ). id ∷ ids) (sym waits);
         crew = is ∙ ap (λ (ids : List ℕ). let s : CrewState = record crew { unsettled = ids } in s) (sym waits);
         book = spent;
-        adds = adds-settled false at.keeps stretch;
+        adds = adds-failing place.ledger (Done id ∷ []) old new at.keeps trace (stretch-settled false stretch) (λ none. spares);
         disk = disk;
         above = above;
       }

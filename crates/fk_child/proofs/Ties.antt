@@ -25,7 +25,7 @@ use Rattle.fk_child.specs.View.{View}
 use Rattle.fk_child.specs.Crew.{CrewState, CrewHost, IsTied, StandsAt, obligations_but}
 use Rattle.fk_child.specs.Calls.{Goes, MarksTurn}
 use Rattle.fk_child.proofs.Pieces.{pairs-before, pairs-behind, filter-but}
-use Rattle.fk_child.proofs.Images.{moment_of, adds-brought, calls-once, told-keeps}
+use Rattle.fk_child.proofs.Images.{moment_of, adds-brought, selects-brought, calls-once, told-keeps}
 
 -- the crew with this host
 abbrev pub with_host : CrewState → View → CrewHost
@@ -179,6 +179,7 @@ pub goes-item : (event : Event) (moment : ℕ) (place : Place) (crew crew' : Cre
 goes-item event moment place crew crew' old new call disk stands tied = record {
   calls = calls-once (Some event) old new call;
   adds = adds-brought (Some event) place.ledger old new call disk stands.keeps;
+  selects = selects-brought (Some event) old new call;
   disk = disk;
   stands = record { tied = tied; keeps = told-keeps (Some event) new.faults place.ledger old.images new.images old.told new.told call stands.keeps };
 }
@@ -190,6 +191,7 @@ pub goes-nothing : (moment : ℕ) (place : Place) (crew crew' : CrewState) (old 
 goes-nothing moment place crew crew' old new call disk stands tied = record {
   calls = calls-once None old new call;
   adds = adds-brought None place.ledger old new call disk stands.keeps;
+  selects = selects-brought None old new call;
   disk = disk;
   stands = record { tied = tied; keeps = told-keeps None new.faults place.ledger old.images new.images old.told new.told call stands.keeps };
 }

@@ -22,7 +22,7 @@ use Rattle.fk_ledger.specs.Holds.{KeepsLedger}
 use Rattle.fk_child.specs.declared.items.EndItem.{EndItem}
 use Rattle.fk_child.specs.declared.items.PollEnd.TheVariants.{Good, Bad, Failed as FailedPoll}
 use Rattle.fk_child.specs.declared.items.Tried.{Tried}
-use Rattle.fk_child.specs.View.{MakesCalls, Adds}
+use Rattle.fk_child.specs.View.{MakesCalls, SelectsTheSame, Adds}
 use Rattle.fk_child.specs.Crew.{CrewHost, IsTied, StandsAt, obligations_but}
 
 -- At each place where the crew stood before a call, this is what the call did.
@@ -33,11 +33,12 @@ AtEach Does old new = (place : Place) → StandsAt old place → Does place old 
 abbrev pub AtEachOver : List Change → (Place → CrewHost → CrewHost → Type 0) → CrewHost → CrewHost → Type 0
 AtEachOver ledger Does old new = (place : Place) → place.ledger ≡ ledger → StandsAt old place → Does place old new
 
--- So many calls have led from the place to the one behind these items of a turn with this moment. The ledger and the disk's count of
--- faults are as before.
+-- So many calls have led from the place to the one behind these items of a turn with this moment. The ledger, the area that Head selects
+-- and the disk's count of faults are as before.
 pub record Goes (count moment : ℕ) (place : Place) (items : List Item) (old new : CrewHost) : Type 0 where
   pub calls : MakesCalls count old.host new.host
-  pub adds : Adds items place.ledger [] true old.host new.host
+  pub adds : Adds items place.ledger [] [] old.host new.host
+  pub selects : SelectsTheSame old.host new.host
   pub disk : new.host.faults ≡ old.host.faults
   pub stands : StandsAt new (behind moment place items)
 
@@ -78,7 +79,8 @@ pub record SettlesFirst (id : ℕ) (old_book new_book : Book) (place : Place) (o
   pub first : old.crew.unsettled ≡ id ∷ new.crew.unsettled
   pub book : new_book ≡ record old_book { changes = after old_book.changes (Done id ∷ []) }
   pub calls : MakesCalls 4 old.host new.host
-  pub adds : Adds [] place.ledger (Done id ∷ []) true old.host new.host
+  pub adds : Adds [] place.ledger (Done id ∷ []) [] old.host new.host
+  pub selects : SelectsTheSame old.host new.host
   pub disk : new.host.faults ≡ old.host.faults
   pub stands : StandsAt new (changed place (Done id ∷ []))
 
@@ -88,7 +90,7 @@ pub record FailsToSettle (old_book new_book : Book) (place : Place) (old new : C
   pub first : old.crew.unsettled ≡ id ∷ new.crew.unsettled
   pub crew : new.crew ≡ record old.crew { unsettled = new.crew.unsettled }
   pub book : new_book ≡ record old_book { is_spent = true }
-  pub adds : Adds [] place.ledger (Done id ∷ []) false old.host new.host
+  pub adds : Adds [] place.ledger [] (Done id ∷ []) old.host new.host
   pub disk : new.host.faults ≡ counted old.host.faults
   pub above : new.host.above ≡ old.host.above
 

@@ -10,7 +10,7 @@ use Rattle.fk_cycle.specs.declared.act.Act.{Act}
 use Rattle.fk_cycle.specs.declared.act.Act.TheVariants.{Nothing, Wait, Settle}
 use Rattle.fk_ledger.specs.Book.{Book}
 use Rattle.fk_child.specs.declared.crew.Crew.TheInside.{Inside}
-use Rattle.fk_child.specs.View.{MakesCalls, Adds}
+use Rattle.fk_child.specs.View.{MakesCalls, SelectsTheSame, Adds}
 use Rattle.fk_child.specs.Crew.{CrewState, CrewHost, StandsAt, StandsOver}
 use Rattle.fk_child.specs.Calls.{ends_in}
 
@@ -53,7 +53,8 @@ pub record PollsOne (moment : ℕ) (child : Child) (rest : List Child) (place : 
   pub item : Item
   pub polled : IsPollOf child item.event
   pub calls : MakesCalls 1 old.host new.host
-  pub adds : Adds (item ∷ []) place.ledger [] true old.host new.host
+  pub adds : Adds (item ∷ []) place.ledger [] [] old.host new.host
+  pub selects : SelectsTheSame old.host new.host
   pub disk : new.host.faults ≡ old.host.faults
   pub found : List Child
   pub stands : StandsPolling rest found new (behind moment place (item ∷ []))
@@ -85,7 +86,8 @@ pub record PartlyPolled (moment count : ℕ) (place : Place) (old new : CrewHost
   pub counted : length polled ≡ count
   pub answered : AllZip (λ child item. IsPollOf child item.event) polled items
   pub calls : MakesCalls (length items) old.host new.host
-  pub adds : Adds items place.ledger [] true old.host new.host
+  pub adds : Adds items place.ledger [] [] old.host new.host
+  pub selects : SelectsTheSame old.host new.host
   pub disk : new.host.faults ≡ old.host.faults
   pub stands : StandsPolling rest found new (behind moment place items)
   pub ends : new.crew.ends ≡ ends_in place.past items

@@ -1,14 +1,14 @@
 -- What is said of a host between two calls, and what calls add to it.
-use Rattle.std.specs.Prelude.{◌≡◌, ℕ, ◌+◌, ◌-◌, ◌<◌, ◌≤◌, Bool, List, ◌++◌, length, take, Option, if◌then◌else◌}
+use Rattle.std.specs.Prelude.{◌≡◌, ℕ, ◌+◌, ◌<◌, ◌≤◌, List, ◌++◌, length, take, Option}
 use Rattle.std.specs.List.{AllPairs, AllByRecursion}
 use Rattle.fk_trace.specs.declared.change.Change.{Change}
 use Rattle.fk_trace.specs.Trace.{Item}
-use Rattle.fk_trace.specs.Ledger.{after}
+use Rattle.fk_trace.specs.Ledger.{after, AreNoFloors}
 use Rattle.fk_host.specs.declared.disk.Area.{Area}
 use Rattle.fk_host.specs.declared.disk.Disk.{Ghosts as DiskMeaning}
 use Rattle.fk_host.specs.Disk.{Areas, Told, Above, IfTold, KeepsPast}
 use Rattle.fk_run.specs.Left.{IsCutAt}
-use Rattle.fk_journal.specs.Keeps.{StandsOn, LeavesOthers}
+use Rattle.fk_journal.specs.Keeps.{StandsOn, LeavesOthers, selected_area}
 use Rattle.fk_ledger.specs.Holds.{HoldsState}
 
 -- what a host says of itself
@@ -33,6 +33,10 @@ MakesCalls count old new = IfTold old.told new.told (λ before later. later.mome
 -- Head selects this area, where the host tells
 abbrev pub StandsOnArea : Area → View → Type 0
 StandsOnArea area view = StandsOn area view.told
+
+-- Head selects the same area as before the calls, where the host tells
+abbrev pub SelectsTheSame : View → View → Type 0
+SelectsTheSame old new = IfTold old.told new.told (λ before later. selected_area later.areas ≡ selected_area before.areas)
 
 -- the calls leave the areas on which the ledger does not stand, in what a read gives and in what a crash may leave
 abbrev pub SparesOthers : View → View → Type 0
@@ -61,15 +65,11 @@ pub record Moments (Leaves : ℕ → ℕ → Areas → Type 0) (least : ℕ) (ol
   pub each : (moment : ℕ) (image : Areas) → start.moments < moment → moment ≤ finish.moments → new moment image → Leaves 0 moment image
   pub last : (image : Areas) → new finish.moments image → Leaves least finish.moments image
 
--- how many of the changes were made: where a call of the disk failed, all but the last, whose call it was
-abbrev pub made_of : Bool → List Change → ℕ
-made_of whole changes = if whole then length changes else length changes - 1
-
 -- Calls were made in one turn that added these items to the trace, each with the disk's count of faults from before them, and these
--- changes to the ledger: all of them, unless one of the calls failed, which is then that of the last change. The areas on which the
--- ledger does not stand are left.
-pub record Adds (items : List Item) (ledger changes : List Change) (whole : Bool) (old new : View) : Type 0 where
+-- changes to the ledger. Where others are failing, a last call was to make them, which failed. Unless the ledger began anew, the areas on
+-- which it does not stand are left.
+pub record Adds (items : List Item) (ledger made failing : List Change) (old new : View) : Type 0 where
   pub trace : IfTold old.told new.told (AddsItems items)
-  pub moments : IfTold old.told new.told (Moments (HoldsFront items ledger changes) (made_of whole changes) old.images new.images)
+  pub moments : IfTold old.told new.told (Moments (HoldsFront items ledger (made ++ failing)) (length made) old.images new.images)
   pub faults : AllByRecursion (λ item. item.faults ≡ old.faults) items
-  pub others : SparesOthers old new
+  pub others : AreNoFloors (made ++ failing) → SparesOthers old new

@@ -11,8 +11,11 @@ pub struct Conf {
     pub live: u32,
     /// How many bytes the journal may have: 16 to 67108864.
     pub room: u64,
+    /// How many seconds a digest is kept at least, where a full journal begins anew: from the age to 31536000.
+    pub keep: u32,
     ghost age_within: { (1 ≤ age) × (age ≤ 31536000) },
     ghost has_port: { 1 ≤ port },
     ghost live_within: { (1 ≤ live) × (live ≤ 4096) },
     ghost room_within: { (16 ≤ room) × (room ≤ 67108864) },
+    ghost keep_within: { (age ≤ keep) × (keep ≤ 31536000) },
 }

@@ -11,6 +11,7 @@ pub(crate) enum ConfName {
     UdpservPort,
     CycleLimit,
     JournalLimit,
+    DigestKeep,
     EnableUdpServer,
     EnableSpaPacketAging,
     EnableDigestPersistence,
@@ -22,11 +23,12 @@ pub(crate) enum ConfName {
     FwknopRunDir,
 }
 
-const CONF_NAMES: [ConfName; 13] = [
+const CONF_NAMES: [ConfName; 14] = [
     ConfName::MaxSpaPacketAge,
     ConfName::UdpservPort,
     ConfName::CycleLimit,
     ConfName::JournalLimit,
+    ConfName::DigestKeep,
     ConfName::EnableUdpServer,
     ConfName::EnableSpaPacketAging,
     ConfName::EnableDigestPersistence,
@@ -54,6 +56,7 @@ impl ConfName {
             ConfName::UdpservPort => b"UDPSERV_PORT",
             ConfName::CycleLimit => b"CYCLE_LIMIT",
             ConfName::JournalLimit => b"JOURNAL_LIMIT",
+            ConfName::DigestKeep => b"DIGEST_KEEP",
             ConfName::EnableUdpServer => b"ENABLE_UDP_SERVER",
             ConfName::EnableSpaPacketAging => b"ENABLE_SPA_PACKET_AGING",
             ConfName::EnableDigestPersistence => b"ENABLE_DIGEST_PERSISTENCE",
@@ -79,7 +82,9 @@ impl ConfName {
         ensures { result ≡ (conf_rule self).is_value value.now }
     {
         match self {
-            ConfName::MaxSpaPacketAge => read_number(value, 1, 31_536_000).is_some(),
+            ConfName::MaxSpaPacketAge | ConfName::DigestKeep => {
+                read_number(value, 1, 31_536_000).is_some()
+            }
             ConfName::UdpservPort => read_number(value, 1, 65_535).is_some(),
             ConfName::CycleLimit => read_number(value, 1, 4096).is_some(),
             ConfName::JournalLimit => read_number(value, 16, 67_108_864).is_some(),

@@ -26,11 +26,14 @@ pub fn read_conf(text: &[u8]) -> Result<Conf, ConfErr>
     let port = given.get(ConfName::UdpservPort.number());
     let live = given.get(ConfName::CycleLimit.number());
     let room = given.get(ConfName::JournalLimit.number());
+    let keep = given.get(ConfName::DigestKeep.number());
+    let age = number_or(age, 1, 31_536_000, 120);
     Ok(Conf {
-        age: number_or(age, 1, 31_536_000, 120) as u32,
+        age: age as u32,
         port: number_or(port, 1, 65_535, 62_201) as u16,
         live: number_or(live, 1, 4096, 256) as u32,
         room: number_or(room, 16, 67_108_864, 16_777_216),
+        keep: number_or(keep, 1, 31_536_000, 86_400).max(age) as u32,
     })
 }
 

@@ -8,7 +8,7 @@ use Rattle.std.proofs.lemmas.List.{map-append, take_all}
 use Rattle.std.proofs.lemmas.List.Elements.{filter-append, Contains-append_left}
 use Rattle.fk_trace.specs.declared.change.Change.{Change}
 use Rattle.fk_trace.specs.Trace.{Item, Child, children, begun_by, is_turn, past_after}
-use Rattle.fk_trace.specs.Ledger.{after, opens, dones}
+use Rattle.fk_trace.specs.Ledger.{after, opens, dones, AreNoFloors}
 use Rattle.fk_trace.specs.Decision.{FeedTurn, Rules}
 use Rattle.fk_trace.specs.Settled.{EndedCleanly}
 use Rattle.fk_run.specs.Headline.{opens_attempted}
@@ -27,9 +27,9 @@ use Rattle.fk_host.specs.Disk.{Areas, Told, IfTold}
 use Rattle.fk_journal.proofs.Told.{past_then, if_told_map}
 use Rattle.fk_ledger.specs.Holds.{HoldsState, KeepsLedger}
 use Rattle.fk_ledger.specs.Stretch.{IsLedgerOpening}
-use Rattle.fk_child.specs.View.{View, AddsItems, HoldsFront, Moments, made_of, Adds}
+use Rattle.fk_child.specs.View.{View, AddsItems, HoldsFront, Moments, Adds}
 use Rattle.fk_journal.specs.Keeps.{LeavesOthers}
-use Rattle.fk_child.proofs.Images.{items-then, adds-none}
+use Rattle.fk_child.proofs.Images.{items-then, adds-none, floors-left, floors-right}
 use Rattle.fk_child.proofs.Others.{others-told}
 use Rattle.fk_child.proofs.Pieces.{recursion-weaker}
 use Rattle.fk_daemon.specs.Moments.{HoldsRun, RunMoments}
@@ -199,12 +199,12 @@ module _ (rules : Rules) (ledger : List Change) (faults : ℕ) where
 
   -- ---- the moments of one turn more
 
-  module _ (ending : Ending) (turns : List TakenTurn) (taken : TakenTurn) (tried : List Change) (whole : Bool)
+  module _ (ending : Ending) (turns : List TakenTurn) (taken : TakenTurn) (tried : List Change) (sure : ℕ)
       (legal : LegalTurns rules (entry ledger) AtLimit turns) (cut : CutTurn rules (after_turns (entry ledger) turns) (record taken { changes = tried }))
       (numbered : AreNumbered (past_after [] (items_in (turns ++ taken ∷ [])))) (unfailed : AllByRecursion (λ item. item.faults ≡ faults) (items_in (turns ++ taken ∷ []))) where
     module _ (p q r : ℕ → Areas → Type 0) (x y z : Told) (before : AddsItems (items_in turns) x y) (here : AddsItems taken.items y z)
         (first : Moments (HoldsCrash (run_at AtLimit turns) (changes_in turns)) (length (changes_in turns)) p q x y)
-        (second : Moments (HoldsFront taken.items (after ledger (changes_in turns)) tried) (made_of whole tried) q r y z) where
+        (second : Moments (HoldsFront taken.items (after ledger (changes_in turns)) tried) (sure) q r y z) where
       items-both : AddsItems (items_in (turns ++ taken ∷ [])) x z
       items-both = subst (λ (items : List Item). AddsItems items x z) (sym (items-push turns taken)) (items-then (items_in turns) taken.items x y z before first.later here second.later)
 
@@ -234,7 +234,7 @@ module _ (rules : Rules) (ledger : List Change) (faults : ℕ) where
           → HoldsCrash (run_at ending (turns ++ taken ∷ [])) (changes_in turns ++ tried) low k image
       holds-weaker low high k image l crash = record { count = crash.count; enough = let e = crash.enough in omega (arith, l, e); left = crash.left; holds = crash.holds }
 
-      turns-then : (least : ℕ) → least ≤ length (changes_in turns) + made_of whole tried → Moments (HoldsCrash (run_at ending (turns ++ taken ∷ [])) (changes_in turns ++ tried)) least p r x z
+      turns-then : (least : ℕ) → least ≤ length (changes_in turns) + sure → Moments (HoldsCrash (run_at ending (turns ++ taken ∷ [])) (changes_in turns ++ tried)) least p r x z
       turns-then least l = record {
         later = omega (arith, first.later, second.later);
         past = past_then x.moments y.moments p q r first.later first.past second.past;
@@ -244,13 +244,13 @@ module _ (rules : Rules) (ledger : List Change) (faults : ℕ) where
               | inr low ↦ holds-earlier k image low (first.each k image behind low ((second.past k image low).0 left))
             ];
         last = λ image left.
-            holds-weaker least (length (changes_in turns) + made_of whole tried) z.moments image l (holds-later (made_of whole tried) z.moments image second.later (second.last image left));
+            holds-weaker least (length (changes_in turns) + sure) z.moments image l (holds-later (sure) z.moments image second.later (second.last image left));
       }
 
-    turns-told : (least : ℕ) → least ≤ length (changes_in turns) + made_of whole tried → (p q r : ℕ → Areas → Type 0) (s t u : Option Told)
+    turns-told : (least : ℕ) → least ≤ length (changes_in turns) + sure → (p q r : ℕ → Areas → Type 0) (s t u : Option Told)
         → IfTold s t (AddsItems (items_in turns)) → IfTold t u (AddsItems taken.items)
         → IfTold s t (Moments (HoldsCrash (run_at AtLimit turns) (changes_in turns)) (length (changes_in turns)) p q)
-        → IfTold t u (Moments (HoldsFront taken.items (after ledger (changes_in turns)) tried) (made_of whole tried) q r)
+        → IfTold t u (Moments (HoldsFront taken.items (after ledger (changes_in turns)) tried) (sure) q r)
         → IfTold s u (AddsItems (items_in (turns ++ taken ∷ []))) × IfTold s u (Moments (HoldsCrash (run_at ending (turns ++ taken ∷ [])) (changes_in turns ++ tried)) least p r)
     turns-told least l p q r s t None before here first second = (tt, tt)
     turns-told least l p q r s None (Some z) before here first second = absurd here
@@ -258,18 +258,23 @@ module _ (rules : Rules) (ledger : List Change) (faults : ℕ) where
     turns-told least l p q r (Some x) (Some y) (Some z) before here first second =
         (items-both p q r x y z before here first second, turns-then p q r x y z before here first second least l)
 
-    -- a turn is added, whole or cut
-    pub adds-turn : (old mid new : View) → AddsTurns (run_at AtLimit turns) (changes_in turns) old mid → Adds taken.items (after ledger (changes_in turns)) tried whole mid new
-        → length (changes_in (turns ++ taken ∷ [])) ≤ length (changes_in turns) + made_of whole tried
-        → AddsTurns (run_at ending (turns ++ taken ∷ [])) (changes_in turns ++ tried) old new
-    adds-turn old mid new so_far next l =
-        let both = turns-told (length (changes_in (turns ++ taken ∷ []))) l old.images mid.images new.images old.told mid.told new.told so_far.trace next.trace so_far.moments next.moments in
-        record {
-          trace = both.0;
-          moments = both.1;
-          others = others-told (HoldsCrash (run_at AtLimit turns) (changes_in turns)) (HoldsFront taken.items (after ledger (changes_in turns)) tried) (length (changes_in turns)) (made_of whole tried)
-              old.images mid.images new.images old.told mid.told new.told so_far.moments next.moments so_far.others next.others;
-        }
+  -- a turn is added, whole or cut
+  pub adds-turn : (ending : Ending) (turns : List TakenTurn) (taken : TakenTurn) (made failing : List Change) → LegalTurns rules (entry ledger) AtLimit turns
+      → CutTurn rules (after_turns (entry ledger) turns) (record taken { changes = made ++ failing }) → AreNumbered (past_after [] (items_in (turns ++ taken ∷ [])))
+      → AllByRecursion (λ item. item.faults ≡ faults) (items_in (turns ++ taken ∷ [])) → (old mid new : View) → AddsTurns (run_at AtLimit turns) (changes_in turns) old mid
+      → Adds taken.items (after ledger (changes_in turns)) made failing mid new → length (changes_in (turns ++ taken ∷ [])) ≤ length (changes_in turns) + length made
+      → AddsTurns (run_at ending (turns ++ taken ∷ [])) (changes_in turns ++ (made ++ failing)) old new
+  adds-turn ending turns taken made failing legal cut numbered unfailed old mid new so_far next l =
+      let both = turns-told ending turns taken (made ++ failing) (length made) legal cut numbered unfailed (length (changes_in (turns ++ taken ∷ []))) l
+      old.images mid.images new.images old.told mid.told new.told so_far.trace next.trace so_far.moments next.moments in
+      record {
+        trace = both.0;
+        moments = both.1;
+        others = λ none.
+            let here : AreNoFloors (made ++ failing) = floors-right (changes_in turns) (made ++ failing) none in
+            others-told (HoldsCrash (run_at AtLimit turns) (changes_in turns)) (HoldsFront taken.items (after ledger (changes_in turns)) (made ++ failing)) (length (changes_in turns)) (length made)
+            old.images mid.images new.images old.told mid.told new.told so_far.moments next.moments (so_far.others (floors-left (changes_in turns) (made ++ failing) none)) (next.others here);
+      }
 
   -- no turn was taken yet
   module _ (old new : ℕ → Areas → Type 0) (x y : Told) (quiet : Moments (HoldsFront [] ledger []) 0 old new x y) (ending : Ending) where
@@ -294,7 +299,7 @@ module _ (rules : Rules) (ledger : List Change) (faults : ℕ) where
       let none = adds-none ledger view keeps in
       record {
         trace = none.trace;
-        others = none.others;
+        others = λ floors. none.others tt;
         moments = if_told_map view.told view.told (Moments (HoldsFront [] ledger []) 0 view.images view.images) (Moments (HoldsCrash (run_at ending []) []) 0 view.images view.images)
             (λ x y quiet. quiet-crash view.images view.images x y quiet ending) none.moments;
       }
@@ -336,9 +341,9 @@ adds-left run tried old mid new adds left = record {
         each = λ k image behind upto now. m.each k image behind upto ((left.images k image).0 now);
         last = λ image now. m.last image ((left.images y.moments image).0 now);
       }) adds.moments);
-  others = subst (λ (told : Option Told). IfTold old.told told (LeavesOthers old.images new.images)) (sym left.told)
+  others = λ none. subst (λ (told : Option Told). IfTold old.told told (LeavesOthers old.images new.images)) (sym left.told)
       (if_told_map old.told mid.told (LeavesOthers old.images mid.images) (LeavesOthers old.images new.images)
-      (λ x y o. record { reads = o.reads; each = λ k image behind upto now. o.each k image behind upto ((left.images k image).0 now) }) adds.others);
+      (λ x y o. record { reads = o.reads; each = λ k image behind upto now. o.each k image behind upto ((left.images k image).0 now) }) (adds.others none));
 }
 
 -- ---- what follows of every legal run

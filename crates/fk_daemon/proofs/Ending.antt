@@ -24,6 +24,7 @@ use Rattle.fk_ledger.specs.Stretch.{IsLedgerOpening}
 use Rattle.fk_journal.specs.Keeps.{LeavesOthers}
 use Rattle.fk_child.specs.View.{View, SparesOthers, AddsItems, Moments}
 use Rattle.fk_child.proofs.Others.{others-then}
+use Rattle.fk_trace.specs.Ledger.{AreNoFloors}
 use Rattle.fk_turn.specs.Daemon.{DaemonState}
 use Rattle.fk_daemon.specs.declared.task.Task.{Task}
 use Rattle.fk_daemon.specs.declared.session.Session.{Session}
@@ -114,16 +115,17 @@ module _ (task : Task) (old : Outside) (host : View) (daemon : DaemonState) (how
   opened-others = told-both old.host.told host.told (IsLedgerOpening daemon.book.changes true old.host.images host.images) (LeavesOthers old.host.images host.images)
       (λ x y. IsLedgerOpening daemon.book.changes true old.host.images host.images x y × LeavesOthers old.host.images host.images x y) (λ x y a b. (a, b)) opens.moments opens.others
 
-  run-others : IfTold host.told late.host.told (λ x y. Moments (HoldsCrash run (tried_changes run_is.account)) (length (changes_of run)) host.images late.host.images x y × LeavesOthers host.images late.host.images x y)
-  run-others = told-both host.told late.host.told (Moments (HoldsCrash run (tried_changes run_is.account)) (length (changes_of run)) host.images late.host.images) (LeavesOthers host.images late.host.images)
-      (λ x y. Moments (HoldsCrash run (tried_changes run_is.account)) (length (changes_of run)) host.images late.host.images x y × LeavesOthers host.images late.host.images x y) (λ x y a b. (a, b)) run_is.adds.moments run_is.adds.others
+  module _ (none : AreNoFloors (tried_changes run_is.account)) where
+    run-others : IfTold host.told late.host.told (λ x y. Moments (HoldsCrash run (tried_changes run_is.account)) (length (changes_of run)) host.images late.host.images x y × LeavesOthers host.images late.host.images x y)
+    run-others = told-both host.told late.host.told (Moments (HoldsCrash run (tried_changes run_is.account)) (length (changes_of run)) host.images late.host.images) (LeavesOthers host.images late.host.images)
+        (λ x y. Moments (HoldsCrash run (tried_changes run_is.account)) (length (changes_of run)) host.images late.host.images x y × LeavesOthers host.images late.host.images x y) (λ x y a b. (a, b)) run_is.adds.moments (run_is.adds.others none)
 
-  -- the other areas are left by the opening and by the run behind it
-  all-others : SparesOthers old.host late.host
-  all-others = told-join old.host.told host.told late.host.told (λ x y. IsLedgerOpening daemon.book.changes true old.host.images host.images x y × LeavesOthers old.host.images host.images x y)
-      (λ x y. Moments (HoldsCrash run (tried_changes run_is.account)) (length (changes_of run)) host.images late.host.images x y × LeavesOthers host.images late.host.images x y)
-      (LeavesOthers old.host.images late.host.images)
-      (λ x y z f g. others-then old.host.images host.images late.host.images x y z (opening-later daemon.book.changes true old.host.images host.images x y f.0) f.0.past g.0.past f.1 g.1) opened-others run-others
+    -- the other areas are left by the opening and by the run behind it
+    all-others : SparesOthers old.host late.host
+    all-others = told-join old.host.told host.told late.host.told (λ x y. IsLedgerOpening daemon.book.changes true old.host.images host.images x y × LeavesOthers old.host.images host.images x y)
+        (λ x y. Moments (HoldsCrash run (tried_changes run_is.account)) (length (changes_of run)) host.images late.host.images x y × LeavesOthers host.images late.host.images x y)
+        (LeavesOthers old.host.images late.host.images)
+        (λ x y z f g. others-then old.host.images host.images late.host.images x y z (opening-later daemon.book.changes true old.host.images host.images x y f.0) f.0.past g.0.past f.1 g.1) opened-others run-others
 
   causes : HasCauses (ending_of how) old (record { feed = late.feed; host = late.host; sink = sink })
   causes = record {
@@ -148,9 +150,10 @@ module _ (task : Task) (old : Outside) (host : View) (daemon : DaemonState) (how
       others = all-others;
     };
     memory = λ wants front last placed.
-        wants-calls task.policy (after_turns (entry run.ledger) front) last (λ more. IfTold host.told late.host.told (λ x y. CallsBehind more last y))
-        (λ more. IfTold old.host.told late.host.told (λ x y. CallsBehind more last y))
-        (λ more calls. told-join old.host.told host.told late.host.told (λ x y. (y.trace ≡ x.trace) × (x.moments ≤ y.moments)) (λ x y. CallsBehind more last y) (λ x y. CallsBehind more last y)
+        wants-calls task.policy (after_turns (entry run.ledger) front) last (λ more. IfTold host.told late.host.told (λ x y. CallsBehind more (after_turns (entry run.ledger) front).ledger last y))
+        (λ more. IfTold old.host.told late.host.told (λ x y. CallsBehind more (after_turns (entry run.ledger) front).ledger last y))
+        (λ more calls. told-join old.host.told host.told late.host.told (λ x y. (y.trace ≡ x.trace) × (x.moments ≤ y.moments)) (λ x y. CallsBehind more (after_turns (entry run.ledger) front).ledger last y)
+        (λ x y. CallsBehind more (after_turns (entry run.ledger) front).ledger last y)
         (λ x y z f g. g) trace-kept calls) (run_is.memory wants front last placed);
     is_broken = says.0.is_broken;
     printed = prints says.0.is_broken (shown_text task.verbosity (before ++ last run.ending)) (output (new_log task.verbosity) old.sink.written old.sink.faults)

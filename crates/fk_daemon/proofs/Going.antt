@@ -28,7 +28,7 @@ use Rattle.fk_log.specs.Writing.{LogState, Output, Logs, output}
 use Rattle.fk_log.proofs.Logged.{Logs-append}
 use Rattle.fk_log.proofs.Turns.{lines_of_turns-append}
 use Rattle.fk_conf.specs.declared.conf.Conf.{Conf}
-use Rattle.fk_child.specs.View.{Adds, made_of}
+use Rattle.fk_child.specs.View.{Adds}
 use Rattle.fk_child.proofs.Pieces.{recursion-weaker}
 use Rattle.fk_turn.specs.Daemon.{Scene, AtRest}
 use Rattle.fk_turn.specs.Rules.{rules_by}
@@ -65,6 +65,7 @@ rests-output conf at place out rests = record {
     changes = rests.stands.changes;
     limit = rests.stands.limit;
     room = rests.stands.room;
+    keep = rests.stands.keep;
     unspent = rests.stands.unspent;
     area = rests.stands.area;
     stands = rests.stands.stands;
@@ -107,10 +108,10 @@ going-first task ledger old log feed sink live_count begins opens counts logs =
     }
 
 -- behind turns that were served the items of a last one carry the same count of faults, and no two children have one number
-pub unfailed-behind : (task : Task) (ledger : List Change) (turns : List TakenTurn) (old mid new : Standing) (taken : TakenTurn) (tried : List Change) (whole : Bool) → Going task ledger turns old mid
-    → Adds taken.items (after_turns (entry ledger) turns).ledger tried whole mid.outside.host new.outside.host
+pub unfailed-behind : (task : Task) (ledger : List Change) (turns : List TakenTurn) (old mid new : Standing) (taken : TakenTurn) (failing : List Change) → Going task ledger turns old mid
+    → Adds taken.items (after_turns (entry ledger) turns).ledger taken.changes failing mid.outside.host new.outside.host
     → AllByRecursion (λ item. item.faults ≡ old.outside.host.faults) (items_in (turns ++ taken ∷ []))
-unfailed-behind task ledger turns old mid new taken tried whole going adds =
+unfailed-behind task ledger turns old mid new taken failing going adds =
     subst (AllByRecursion (λ (item : Item). item.faults ≡ old.outside.host.faults)) (sym (items-push turns taken))
     (recursion-joined (λ (item : Item). item.faults ≡ old.outside.host.faults) (items_in turns) taken.items going.unfailed
     (recursion-weaker (λ (item : Item). item.faults ≡ mid.outside.host.faults) (λ item. item.faults ≡ old.outside.host.faults) (λ item e. e ∙ going.disk) taken.items adds.faults))
@@ -124,17 +125,17 @@ numbered-cut ledger turns taken numbered =
     numbered
 
 -- behind turns that were served one more is added, whole or cut
-pub adds-behind : (task : Task) (ledger : List Change) (ending : Ending) (turns : List TakenTurn) (old mid new : Standing) (taken : TakenTurn) (tried : List Change) (whole : Bool) → Going task ledger turns old mid
-    → CutTurn (rules_by task.policy) (after_turns (entry ledger) turns) (record taken { changes = tried })
+pub adds-behind : (task : Task) (ledger : List Change) (ending : Ending) (turns : List TakenTurn) (old mid new : Standing) (taken : TakenTurn) (failing : List Change) → Going task ledger turns old mid
+    → CutTurn (rules_by task.policy) (after_turns (entry ledger) turns) (record taken { changes = taken.changes ++ failing })
     → AreNumbered (past_after (after_turns (entry ledger) turns).past taken.items)
-    → Adds taken.items (after_turns (entry ledger) turns).ledger tried whole mid.outside.host new.outside.host → length taken.changes ≤ made_of whole tried
-    → AddsTurns (run_at (rules_by task.policy) ledger old.outside.host.faults ending (turns ++ taken ∷ [])) (changes_in turns ++ tried) old.outside.host new.outside.host
-adds-behind task ledger ending turns old mid new taken tried whole going cut numbered adds least =
-    let here : Adds taken.items (after ledger (changes_in turns)) tried whole mid.outside.host new.outside.host =
-    subst (λ (held : List Change). Adds taken.items held tried whole mid.outside.host new.outside.host) (ledger-behind (entry ledger) turns) adds in
-    adds-turn (rules_by task.policy) ledger old.outside.host.faults ending turns taken tried whole going.whole cut (numbered-cut ledger turns taken numbered)
-    (unfailed-behind task ledger turns old mid new taken tried whole going adds) old.outside.host mid.outside.host new.outside.host going.adds here
-    (let both = ap length (changes-push turns taken) in let sum = length-append (changes_in turns) taken.changes in omega (arith, both, sum, least))
+    → Adds taken.items (after_turns (entry ledger) turns).ledger taken.changes failing mid.outside.host new.outside.host
+    → AddsTurns (run_at (rules_by task.policy) ledger old.outside.host.faults ending (turns ++ taken ∷ [])) (changes_in turns ++ (taken.changes ++ failing)) old.outside.host new.outside.host
+adds-behind task ledger ending turns old mid new taken failing going cut numbered adds =
+    let here : Adds taken.items (after ledger (changes_in turns)) taken.changes failing mid.outside.host new.outside.host =
+    subst (λ (held : List Change). Adds taken.items held taken.changes failing mid.outside.host new.outside.host) (ledger-behind (entry ledger) turns) adds in
+    adds-turn (rules_by task.policy) ledger old.outside.host.faults ending turns taken taken.changes failing going.whole cut (numbered-cut ledger turns taken numbered)
+    (unfailed-behind task ledger turns old mid new taken failing going adds) old.outside.host mid.outside.host new.outside.host going.adds here
+    (let both = ap length (changes-push turns taken) in let sum = length-append (changes_in turns) taken.changes in omega (arith, both, sum))
 
 -- behind turns that were served a last one is logged
 pub logs-behind : (task : Task) (ledger : List Change) (turns : List TakenTurn) (old mid : Standing) (out : Output) → Going task ledger turns old mid
@@ -176,8 +177,10 @@ module _ (task : Task) (ledger : List Change) (turns : List TakenTurn) (old mid 
       → (next : ServesNext task turn here mid new) → Going task ledger (turns ++ next.serves.taken ∷ []) old new
   going-push going under takes next =
       let taken : TakenTurn = next.serves.taken in
-      let more = adds-behind task ledger AtLimit turns old mid new taken taken.changes true going (whole-cut (rules_by task.policy) here taken next.serves.whole)
-      next.serves.rests.stands.stands.tied.stands.orderly.numbered next.serves.adds (omega arith) in
+      let cut : CutTurn (rules_by task.policy) here (record taken { changes = taken.changes ++ [] }) =
+      subst (λ (changes : List Change). CutTurn (rules_by task.policy) here (record taken { changes = changes })) (sym (append-nil taken.changes)) (whole-cut (rules_by task.policy) here taken next.serves.whole) in
+      let more = adds-behind task ledger AtLimit turns old mid new taken [] going cut
+      next.serves.rests.stands.stands.tied.stands.orderly.numbered next.serves.adds in
       let feed = feeds-then task.policy.conf.now.port (map (λ (t : TakenTurn). t.turn) turns) (turn ∷ []) old.outside.feed.given mid.outside.feed.given new.outside.feed.given going.given takes.given in
       let fed : map (λ (t : TakenTurn). t.turn) turns ++ turn ∷ [] ≡ map (λ (t : TakenTurn). t.turn) (turns ++ taken ∷ []) =
       ap (λ (t : FeedTurn). map (λ (t : TakenTurn). t.turn) turns ++ t ∷ []) (sym next.serves.of_turn) ∙ sym (map-append (λ (t : TakenTurn). t.turn) turns (taken ∷ [])) in
@@ -185,8 +188,9 @@ module _ (task : Task) (ledger : List Change) (turns : List TakenTurn) (old mid 
       record {
         whole = legal-push (rules_by task.policy) (entry ledger) turns taken going.whole next.serves.whole;
         is_ledger = going.is_ledger;
-        adds = subst (λ (tried : List Change). AddsTurns (run_at (rules_by task.policy) ledger old.outside.host.faults AtLimit (turns ++ taken ∷ [])) tried old.outside.host new.outside.host) (sym (changes-push turns taken)) more;
-        unfailed = unfailed-behind task ledger turns old mid new taken taken.changes true going next.serves.adds;
+        adds = subst (λ (tried : List Change). AddsTurns (run_at (rules_by task.policy) ledger old.outside.host.faults AtLimit (turns ++ taken ∷ [])) tried old.outside.host new.outside.host)
+            (ap (λ (changes : List Change). changes_in turns ++ changes) (append-nil taken.changes) ∙ sym (changes-push turns taken)) more;
+        unfailed = unfailed-behind task ledger turns old mid new taken [] going next.serves.adds;
         disk = next.serves.disk ∙ going.disk;
         given = subst (λ (all : List FeedTurn). Feeds Opened task.policy.conf.now.port all old.outside.feed.given new.outside.feed.given) fed feed;
         logs = subst (λ (all : List Line). Logs (opening_lines Opened ledger ++ all) (output_of old) (output_of new)) (sym (lines_of_turns-append (rules_by task.policy) (entry ledger) Told turns taken)) lines;

@@ -1,4 +1,5 @@
 pub mod Behind
+pub mod Floors
 pub mod Telling
 pub mod Resuming
 pub mod Crashing

@@ -99,6 +99,7 @@ finish-unopened task ledger old feed limits begins given fails logs = record {
     opens = (refl, refl);
     tells = refl;
     fails = refl;
+    whole = refl;
   };
   given = given;
   adds = adds-no_turn (rules_by task.policy) ledger old.outside.host.faults AtFeedFault old.outside.host begins.rests.stands.stands.keeps;

@@ -19,7 +19,7 @@ use Rattle.fk_daemon.proofs.Telling.{told-both, told-weaker, opening-weaker}
 -- what the opening of a ledger says
 pub record Opened (conf : Conf) (ledger : Book) (old new : View) : Type 0 where
   pub held : IfTold old.told new.told (λ before later. HoldsLedger before.areas ledger.changes)
-  pub fresh : (ledger.room ≡ conf.room) × (ledger.limit ≡ conf.live) × (ledger.is_spent ≡ false)
+  pub fresh : (ledger.room ≡ conf.room) × (ledger.limit ≡ conf.live) × (ledger.keep ≡ conf.keep) × (ledger.is_spent ≡ false)
   pub keeps : KeepsLedger ledger.changes new.told new.images
   pub area : StandsOn ledger.area new.told
   pub moments : (held : List Change) → IfTold old.told new.told (λ before later. HoldsLedger before.areas held → IsLedgerOpening held true old.images new.images before later)
@@ -41,7 +41,8 @@ resumed conf ledger daemon old new opened is tied settled =
           changes = refl;
           limit = ap (λ (book : Book). book.limit) is.0 ∙ opened.fresh.1;
           room = ap (λ (book : Book). book.room) is.0 ∙ opened.fresh.0;
-          unspent = ap (λ (book : Book). book.is_spent) is.0 ∙ opened.fresh.2;
+          keep = ap (λ (book : Book). book.keep) is.0 ∙ opened.fresh.2;
+          unspent = ap (λ (book : Book). book.is_spent) is.0 ∙ opened.fresh.3;
           area = subst (λ (area : Area). StandsOn area new.told) (sym (ap (λ (book : Book). book.area) is.0)) opened.area;
           stands = record {
             tied = subst (λ (changes : List Change). IsTied daemon.crew new.above (entry changes)) same (tied new.above);

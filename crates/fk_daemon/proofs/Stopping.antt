@@ -4,7 +4,7 @@ use Rattle.std.proofs.lemmas.List.{map-append}
 use Rattle.fk_trace.specs.declared.change.Change.{Change}
 use Rattle.fk_trace.specs.Trace.{Item, past_after}
 use Rattle.fk_trace.specs.declared.change.Change.TheVariants.{Done}
-use Rattle.fk_trace.specs.Ledger.{live, dones}
+use Rattle.fk_trace.specs.Ledger.{live, dones, ends_with_floor}
 use Rattle.fk_trace.specs.Settled.{settlements}
 use Rattle.fk_trace.specs.Decision.{FeedTurn, Rules}
 use Rattle.fk_trace.proofs.Splits.{none_before}
@@ -24,7 +24,7 @@ use Rattle.fk_log.specs.Log.Opening.{Opened}
 use Rattle.fk_log.specs.Log.RefusalLine.{Told, Untold}
 use Rattle.fk_log.specs.Writing.{Logs}
 use Rattle.fk_log.proofs.Turns.{lines_of_turns-append}
-use Rattle.fk_child.specs.View.{MakesCalls, AddsItems, Adds, made_of}
+use Rattle.fk_child.specs.View.{MakesCalls, AddsItems, Adds}
 use Rattle.fk_turn.specs.Rules.{rules_by}
 use Rattle.fk_turn.specs.declared.policy.Policy.{Policy}
 use Rattle.fk_turn.specs.Wanting.{WantsMemoryAt}
@@ -39,6 +39,8 @@ use Rattle.fk_daemon.specs.Serving.{CallsBehind, HasCauses}
 use Rattle.fk_daemon.specs.Sessions.{AddsTurns, Standing, Takes, TakesNone, SumsUp, MaySumUp, Finishes, ending_of, run_of, output_of, scene_of}
 use Rattle.fk_daemon.proofs.Behind.{items_in, changes_in, changes-push, ledger-behind, last-push, legal-whole, legal-cut, planned-push, feeds-then, cases-push, last-one}
 use Rattle.fk_daemon.proofs.Crashing.{AreNumbered, adds-ending}
+use Rattle.fk_daemon.proofs.Floors.{ends-turns}
+use Rattle.fk_turn.proofs.Making.{ends-joined}
 use Rattle.fk_daemon.proofs.Telling.{told-join, told-both}
 use Rattle.fk_daemon.proofs.Going.{Going, numbered-cut, unfailed-behind, adds-behind, logs-behind, going-none}
 
@@ -88,6 +90,7 @@ serving-uncut task ledger ending turns old now going whole fits tells fails = re
   opens = tt;
   tells = tells;
   fails = fails;
+  whole = ends-turns (rules_by task.policy) (entry ledger) turns going.whole;
 }
 
 finish-uncut : (task : Task) (ledger : List Change) (how : Stop) (turns : List TakenTurn) (old now : Standing) → Going task ledger turns old now
@@ -151,34 +154,34 @@ module _ (task : Task) (ledger : List Change) (turns : List TakenTurn) (old mid 
   Settles front last = map Done (dones last.changes) ≡ settlements (after_turns (entry ledger) front).past last.items
 
   -- what is said of the turn that was cut
-  record Cuts (ending : Ending) (refusal : RefusalLine) (failing : List Change) (whole : Bool) : Type 0 where
+  record Cuts (ending : Ending) (refusal : RefusalLine) (failing : List Change) : Type 0 where
     may : IsTrue (cuts_turn ending)
     fits : FitsLimits task.limits all ending
     cut : CutTurn (rules_by task.policy) place taken
     meant : CutTurn (rules_by task.policy) place (record taken { changes = taken.changes ++ failing })
-    least : length taken.changes ≤ made_of whole (taken.changes ++ failing)
+    whole : ends_with_floor taken.changes ≡ false
     numbered : AreNumbered (past_after place.past taken.items)
-    adds : Adds taken.items place.ledger (taken.changes ++ failing) whole mid.outside.host new.outside.host
+    adds : Adds taken.items place.ledger taken.changes failing mid.outside.host new.outside.host
     settled : ending ≡ AtWantOfMemory → Settles turns taken
     tells : MayTellAt ending taken.items refusal
     fails : FailsNext ending failing (run_of task ledger old.outside.host.faults ending all)
     logs : Logs (turn_lines (rules_by task.policy) place refusal taken) (output_of mid) (output_of new)
 
-  cut-adds : (ending : Ending) (refusal : RefusalLine) (failing : List Change) (whole : Bool) → Cuts ending refusal failing whole
+  cut-adds : (ending : Ending) (refusal : RefusalLine) (failing : List Change) → Cuts ending refusal failing
       → AddsTurns (run_of task ledger old.outside.host.faults ending all) (changes_in all ++ failing) old.outside.host new.outside.host
-  cut-adds ending refusal failing whole cuts =
+  cut-adds ending refusal failing cuts =
       subst (λ (tried : List Change). AddsTurns (run_of task ledger old.outside.host.faults ending all) tried old.outside.host new.outside.host)
       (sym (append_assoc (changes_in turns) taken.changes failing) ∙ ap (λ (changes : List Change). changes ++ failing) (sym (changes-push turns taken)))
-      (adds-behind task ledger ending turns old mid new taken (taken.changes ++ failing) whole going cuts.meant cuts.numbered cuts.adds cuts.least)
+      (adds-behind task ledger ending turns old mid new taken failing going cuts.meant cuts.numbered cuts.adds)
 
-  serving-cut : (ending : Ending) (refusal : RefusalLine) (failing : List Change) (whole : Bool) → Cuts ending refusal failing whole → (ReachesLimit task.limits turns → ⊥)
+  serving-cut : (ending : Ending) (refusal : RefusalLine) (failing : List Change) → Cuts ending refusal failing → (ReachesLimit task.limits turns → ⊥)
       → IsServing task (cut_short task ledger old.outside.host.faults ending all refusal failing)
-  serving-cut ending refusal failing whole cuts under = record {
+  serving-cut ending refusal failing cuts under = record {
     rules = refl;
     ledger = going.is_ledger;
     legal = record {
       turns = legal-cut (rules_by task.policy) (entry ledger) ending turns taken cuts.may going.whole cuts.cut;
-      no_fault_before = unfailed-behind task ledger turns old mid new taken (taken.changes ++ failing) whole going cuts.adds;
+      no_fault_before = unfailed-behind task ledger turns old mid new taken failing going cuts.adds;
       numbered = numbered-cut ledger turns taken cuts.numbered;
     };
     limits = record {
@@ -195,11 +198,13 @@ module _ (task : Task) (ledger : List Change) (turns : List TakenTurn) (old mid 
     opens = tt;
     tells = subst (λ (items : List Item). MayTellAt ending items refusal) (sym (last-push [] turns taken)) cuts.tells;
     fails = cuts.fails;
+    whole = ap ends_with_floor (changes-push turns taken)
+        ∙ ends-joined (changes_in turns) taken.changes (ends-turns (rules_by task.policy) (entry ledger) turns going.whole) cuts.whole;
   }
 
-  cut-logs : (ending : Ending) (refusal : RefusalLine) (failing : List Change) (whole : Bool) → Cuts ending refusal failing whole
+  cut-logs : (ending : Ending) (refusal : RefusalLine) (failing : List Change) → Cuts ending refusal failing
       → Logs (opening_lines Opened ledger ++ lines_of_turns (rules_by task.policy) (entry ledger) refusal all) (output_of old) (output_of new)
-  cut-logs ending refusal failing whole cuts =
+  cut-logs ending refusal failing cuts =
       subst (λ (lines : List Line). Logs (opening_lines Opened ledger ++ lines) (output_of old) (output_of new))
       (sym (lines_of_turns-append (rules_by task.policy) (entry ledger) refusal turns taken))
       (logs-behind task ledger turns old mid (output_of new) going (turn_lines (rules_by task.policy) place refusal taken) cuts.logs)
@@ -212,21 +217,22 @@ module _ (task : Task) (ledger : List Change) (turns : List TakenTurn) (old mid 
       (ap (λ (t : FeedTurn). map (λ (t : TakenTurn). t.turn) turns ++ t ∷ []) (sym is) ∙ sym (map-append (λ (t : TakenTurn). t.turn) turns (taken ∷ []))) feed
 
 -- what the turn's own calls say of the moments behind its first item
-calls-from : (more : ℕ) (last : TakenTurn) (items : List Item) → last.items ≡ items → (x y : TellsOf) → BeginsAt (x.moments + 1) items
-    → y.moments ≡ x.moments + (calls_for items last.changes + more) → CallsBehind more last y
-calls-from more last [] e x y begun calls = absurd begun
-calls-from more last (start ∷ further) e x y begun calls = record { start = start; further = further; items = e; calls = omega (arith, begun, calls) }
+calls-from : (more : ℕ) (ledger : List Change) (last : TakenTurn) (items : List Item) → last.items ≡ items → (x y : TellsOf) → BeginsAt (x.moments + 1) items
+    → y.moments ≡ x.moments + (calls_for items ledger last.changes + more) → CallsBehind more ledger last y
+calls-from more ledger last [] e x y begun calls = absurd begun
+calls-from more ledger last (start ∷ further) e x y begun calls = record { start = start; further = further; items = e; calls = omega (arith, begun, calls) }
 
 -- in the turn that wanted memory, behind the turns before it
 calls-behind : (task : Task) (ledger : List Change) (turns : List TakenTurn) (old mid new : Standing) → Going task ledger turns old mid → (taken : TakenTurn)
     → IfTold mid.outside.host.told new.outside.host.told (λ before later. BeginsAt (before.moments + 1) taken.items)
-    → (more : ℕ) → MakesCalls (calls_for taken.items taken.changes + more) mid.outside.host new.outside.host
-    → IfTold old.outside.host.told new.outside.host.told (λ before later. CallsBehind more taken later)
+    → (more : ℕ) → MakesCalls (calls_for taken.items (after_turns (entry ledger) turns).ledger taken.changes + more) mid.outside.host new.outside.host
+    → IfTold old.outside.host.told new.outside.host.told (λ before later. CallsBehind more (after_turns (entry ledger) turns).ledger taken later)
 calls-behind task ledger turns old mid new going taken begun more calls =
-    let here : IfTold mid.outside.host.told new.outside.host.told (λ before later. CallsBehind more taken later) =
-    told-both mid.outside.host.told new.outside.host.told (λ x y. BeginsAt (x.moments + 1) taken.items) (λ x y. y.moments ≡ x.moments + (calls_for taken.items taken.changes + more))
-    (λ x y. CallsBehind more taken y) (λ x y b c. calls-from more taken taken.items refl x y b c) begun calls in
-    told-join old.outside.host.told mid.outside.host.told new.outside.host.told (AddsItems (items_in turns)) (λ x y. CallsBehind more taken y) (λ x y. CallsBehind more taken y)
+    let held : List Change = (after_turns (entry ledger) turns).ledger in
+    let here : IfTold mid.outside.host.told new.outside.host.told (λ before later. CallsBehind more held taken later) =
+    told-both mid.outside.host.told new.outside.host.told (λ x y. BeginsAt (x.moments + 1) taken.items) (λ x y. y.moments ≡ x.moments + (calls_for taken.items held taken.changes + more))
+    (λ x y. CallsBehind more held taken y) (λ x y b c. calls-from more held taken taken.items refl x y b c) begun calls in
+    told-join old.outside.host.told mid.outside.host.told new.outside.host.told (AddsItems (items_in turns)) (λ x y. CallsBehind more held taken y) (λ x y. CallsBehind more held taken y)
     (λ x y z f g. g) going.adds.trace here
 
 -- where memory is wanting is told whatever is said of the calls
@@ -244,34 +250,36 @@ pub finish-disk : (task : Task) (ledger : List Change) (turns : List TakenTurn) 
 finish-disk task ledger turns old mid new turn going calm under takes fails =
     let taken : TakenTurn = fails.taken in
     let rules : Rules = rules_by task.policy in
-    let next : List Change = fails.next ∷ [] in
-    let planned_is : changes_in (turns ++ taken ∷ []) ++ fails.next ∷ fails.later ≡ planned (run_of task ledger old.outside.host.faults AtDiskFault (turns ++ taken ∷ [])) =
-    ap (λ (changes : List Change). changes ++ fails.next ∷ fails.later) (changes-push turns taken) ∙ append_assoc (changes_in turns) taken.changes (fails.next ∷ fails.later)
+    let next : List Change = fails.failing in
+    let planned_is : (changes_in (turns ++ taken ∷ []) ++ next) ++ fails.later ≡ planned (run_of task ledger old.outside.host.faults AtDiskFault (turns ++ taken ∷ [])) =
+    ap (λ (changes : List Change). (changes ++ next) ++ fails.later) (changes-push turns taken)
+    ∙ ap (λ (changes : List Change). changes ++ fails.later) (append_assoc (changes_in turns) taken.changes next)
+    ∙ append_assoc (changes_in turns) (taken.changes ++ next) fails.later
     ∙ ap (λ (made : List Change). changes_in turns ++ made) fails.planned ∙ sym (planned-push rules (entry ledger) turns taken going.whole) in
-    let cuts : Cuts task ledger turns old mid new taken going AtDiskFault Untold next false =
+    let cuts : Cuts task ledger turns old mid new taken going AtDiskFault Untold next =
     record {
       may = refl;
       fits = tt;
       cut = fails.cut;
       meant = fails.meant;
-      least = let both = length-append taken.changes next in omega (arith, both);
+      whole = fails.whole;
       numbered = fails.numbered;
       adds = fails.adds;
       settled = λ wants. absurd cc;
       tells = refl;
-      fails = (fails.next, fails.later, refl, planned_is);
+      fails = (fails.one, (fails.later, planned_is));
       logs = fails.logs;
     } in
     record {
       account = cut_short task ledger old.outside.host.faults AtDiskFault (turns ++ taken ∷ []) Untold next;
       turns = turns ++ taken ∷ [];
       is = refl;
-      serving = serving-cut task ledger turns old mid new taken going AtDiskFault Untold next false cuts under;
+      serving = serving-cut task ledger turns old mid new taken going AtDiskFault Untold next cuts under;
       given = cut-given task ledger turns old mid new taken going turn fails.of_turn takes;
-      adds = cut-adds task ledger turns old mid new taken going AtDiskFault Untold next false cuts;
+      adds = cut-adds task ledger turns old mid new taken going AtDiskFault Untold next cuts;
       memory = λ wants. absurd cc;
       caused = record { feed = takes.faults ∙ calm; disk = fails.disk ∙ ap counted going.disk; end = tt };
-      logs = cut-logs task ledger turns old mid new taken going AtDiskFault Untold next false cuts;
+      logs = cut-logs task ledger turns old mid new taken going AtDiskFault Untold next cuts;
       parks = fails.parks;
       sums = tt;
     }
@@ -282,15 +290,15 @@ pub finish-memory : (task : Task) (ledger : List Change) (turns : List TakenTurn
     → WantsMemory task.policy (after_turns (entry ledger) turns) turn (scene_of mid) (scene_of new) → Finishes task ledger stop.NoMemory old new
 finish-memory task ledger turns old mid new turn going calm under takes wants =
     let taken : TakenTurn = wants.taken in
-    let cuts : Cuts task ledger turns old mid new taken going AtWantOfMemory wants.told [] true =
+    let cuts : Cuts task ledger turns old mid new taken going AtWantOfMemory wants.told [] =
     record {
       may = refl;
       fits = tt;
       cut = wants.cut;
       meant = subst (λ (changes : List Change). CutTurn (rules_by task.policy) (after_turns (entry ledger) turns) (record taken { changes = changes })) (sym (append-nil taken.changes)) wants.cut;
-      least = let both = length-append taken.changes [] in omega (arith, both);
+      whole = wants.whole;
       numbered = wants.numbered;
-      adds = subst (λ (changes : List Change). Adds taken.items (after_turns (entry ledger) turns).ledger changes true mid.outside.host new.outside.host) (sym (append-nil taken.changes)) wants.adds;
+      adds = wants.adds;
       settled = λ e. wants.settled;
       tells = wants.may;
       fails = refl;
@@ -300,17 +308,17 @@ finish-memory task ledger turns old mid new turn going calm under takes wants =
       account = cut_short task ledger old.outside.host.faults AtWantOfMemory (turns ++ taken ∷ []) wants.told [];
       turns = turns ++ taken ∷ [];
       is = refl;
-      serving = serving-cut task ledger turns old mid new taken going AtWantOfMemory wants.told [] true cuts under;
+      serving = serving-cut task ledger turns old mid new taken going AtWantOfMemory wants.told [] cuts under;
       given = cut-given task ledger turns old mid new taken going turn wants.of_turn takes;
-      adds = cut-adds task ledger turns old mid new taken going AtWantOfMemory wants.told [] true cuts;
+      adds = cut-adds task ledger turns old mid new taken going AtWantOfMemory wants.told [] cuts;
       memory = λ ending front last placed.
           let one = last-one turns front taken last placed in
-          subst (λ (t : TakenTurn). WantsMemoryAt task.policy (after_turns (entry ledger) front) t (λ more. IfTold old.outside.host.told new.outside.host.told (λ x y. CallsBehind more t y))) (sym one.1)
-          (subst (λ (f : List TakenTurn). WantsMemoryAt task.policy (after_turns (entry ledger) f) taken (λ more. IfTold old.outside.host.told new.outside.host.told (λ x y. CallsBehind more taken y))) (sym one.0)
-          (wants-calls task.policy (after_turns (entry ledger) turns) taken (λ more. MakesCalls (calls_for taken.items taken.changes + more) mid.outside.host new.outside.host)
-          (λ more. IfTold old.outside.host.told new.outside.host.told (λ x y. CallsBehind more taken y)) (calls-behind task ledger turns old mid new going taken wants.begun) wants.wants));
+          subst (λ (t : TakenTurn). WantsMemoryAt task.policy (after_turns (entry ledger) front) t (λ more. IfTold old.outside.host.told new.outside.host.told (λ x y. CallsBehind more (after_turns (entry ledger) front).ledger t y))) (sym one.1)
+          (subst (λ (f : List TakenTurn). WantsMemoryAt task.policy (after_turns (entry ledger) f) taken (λ more. IfTold old.outside.host.told new.outside.host.told (λ x y. CallsBehind more (after_turns (entry ledger) f).ledger taken y))) (sym one.0)
+          (wants-calls task.policy (after_turns (entry ledger) turns) taken (λ more. MakesCalls (calls_for taken.items (after_turns (entry ledger) turns).ledger taken.changes + more) mid.outside.host new.outside.host)
+          (λ more. IfTold old.outside.host.told new.outside.host.told (λ x y. CallsBehind more (after_turns (entry ledger) turns).ledger taken y)) (calls-behind task ledger turns old mid new going taken wants.begun) wants.wants));
       caused = record { feed = takes.faults ∙ calm; disk = wants.disk ∙ going.disk; end = tt };
-      logs = cut-logs task ledger turns old mid new taken going AtWantOfMemory wants.told [] true cuts;
+      logs = cut-logs task ledger turns old mid new taken going AtWantOfMemory wants.told [] cuts;
       parks = wants.parks;
       sums = tt;
     }

@@ -2,7 +2,7 @@
 use Rattle.std.specs.Prelude.{◌≡◌, ◌≢◌, ◌≤◌, Bool, true, false, List, [], ◌∷◌, ◌++◌, map, IfSome}
 use Rattle.fk_trace.specs.declared.change.Change.{Change}
 use Rattle.fk_trace.specs.declared.change.Change.TheVariants.{Done}
-use Rattle.fk_trace.specs.Ledger.{IsLedger, dones}
+use Rattle.fk_trace.specs.Ledger.{IsLedger, dones, ends_with_floor, AreOneCall}
 use Rattle.fk_trace.specs.Settled.{settlements}
 use Rattle.fk_run.specs.declared.limits.Limits.{Limits}
 use Rattle.fk_run.specs.Place.{entry}
@@ -23,10 +23,10 @@ pub record Account : Type 0 where
   pub opening : Opening
   -- whether the log has the refusal of a turn that was cut
   pub refusal : RefusalLine
-  -- the change of the disk's call that failed, where one did
+  -- the changes of the call that failed for the disk, where one did
   pub failing : List Change
 
--- the changes that a crash may show: those of the run, and the one that failed
+-- the changes that a crash may show: those of the run, and those that failed
 abbrev pub tried_changes : Account → List Change
 tried_changes account = changes_of account.run ++ account.failing
 
@@ -40,10 +40,10 @@ abbrev pub is_whole : Ending → Bool
 is_whole AtDiskFault = false
 is_whole _ = true
 
--- a change fails only where the disk does, and is then the next of the planned ones
+-- changes fail only where the disk does, those of one call, and are then the next of the planned ones
 abbrev pub FailsNext : Ending → List Change → Run → Type 0
 FailsNext AtDiskFault failing run =
-    (next : Change) × (later : List Change) × (failing ≡ next ∷ []) × (changes_of run ++ next ∷ later ≡ planned run)
+    AreOneCall failing × ((later : List Change) × (changes_of run ++ failing ++ later ≡ planned run))
 FailsNext _ failing run = failing ≡ []
 
 -- a run whose feed was not opened took no turn, and ended there
@@ -65,3 +65,5 @@ pub record IsServing (task : Task) (account : Account) : Type 0 where
   pub opens : OpensFeed account.opening account.run
   pub tells : MayTell account.run account.refusal
   pub fails : FailsNext account.run.ending account.failing account.run
+  -- and what it made does not end with a Floor
+  pub whole : ends_with_floor (changes_of account.run) ≡ false

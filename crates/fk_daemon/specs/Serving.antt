@@ -4,6 +4,7 @@ use Rattle.fk_base.specs.declared.status.Status.{Status}
 use Rattle.fk_base.specs.declared.status.Status.TheVariants as status
 use Rattle.fk_trace.specs.declared.change.Change.{Change}
 use Rattle.fk_trace.specs.Trace.{Item}
+use Rattle.fk_trace.specs.Ledger.{AreNoFloors}
 use Rattle.fk_run.specs.Place.{entry}
 use Rattle.fk_run.specs.Turn.{TakenTurn, after_turns}
 use Rattle.fk_run.specs.Run.{Run, Ending, turns_of, trace_of}
@@ -53,28 +54,29 @@ pub record HasCauses (ending : Ending) (old new : Outside) : Type 0 where
   pub disk : new.host.faults ≡ (if is_whole ending then old.host.faults else counted old.host.faults)
   pub end : EndsFeed ending new.feed.has_ended
 
--- Behind the Turn item of this last turn the host was called once for each further item, four times for each change, and `more` times
+-- Behind the Turn item of this last turn, over this ledger, the host was called for each further item and each change, and `more` times
 -- more.
-pub record CallsBehind (more : ℕ) (last : TakenTurn) (later : Told) : Type 0 where
+pub record CallsBehind (more : ℕ) (ledger : List Change) (last : TakenTurn) (later : Told) : Type 0 where
   pub start : Item
   pub further : List Item
   pub items : last.items ≡ start ∷ further
-  pub calls : later.moments ≡ start.moments + calls_for further last.changes + more
+  pub calls : later.moments ≡ start.moments + calls_for further ledger last.changes + more
 
 -- A run that ended for want of memory, and where in its last turn it was wanting.
 abbrev pub WantsMemoryLast : Policy → Run → Option Told → Option Told → Type 0
 WantsMemoryLast policy run old new =
     run.ending ≡ AtWantOfMemory → (front : List TakenTurn) (last : TakenTurn) → run.turns ≡ front ++ last ∷ []
-    → WantsMemoryAt policy (after_turns (entry run.ledger) front) last (λ more. IfTold old new (λ before later. CallsBehind more last later))
+    → WantsMemoryAt policy (after_turns (entry run.ledger) front) last
+    (λ more. IfTold old new (λ before later. CallsBehind more (after_turns (entry run.ledger) front).ledger last later))
 
 -- The run of the account was served on the host: over the ledger that it held, with the run's items as the trace's new end, and its
--- changes on the disk as far as each moment says. The areas on which the ledger does not stand are left.
+-- changes on the disk as far as each moment says. Unless the ledger began anew, the areas on which it does not stand are left.
 pub record RunsOn (account : Account) (old new : View) : Type 0 where
   pub found : IfTold old.told new.told (λ before later. HoldsLedger before.areas account.run.ledger)
   pub faults : account.run.faults ≡ old.faults
   pub trace : IfTold old.told new.told (AddsItems (trace_of account.run))
   pub moments : IfTold old.told new.told (RunMoments account.run (tried_changes account) old.images new.images)
-  pub others : SparesOthers old new
+  pub others : AreNoFloors (tried_changes account) → SparesOthers old new
 
 -- A ledger was opened and served: this is one legal run over it, whose turns the feed gave, that was served on the host, and whose
 -- log was printed.

@@ -7,7 +7,7 @@ use Rattle.fk_base.specs.declared.status.Status.TheVariants as status
 use Rattle.fk_trace.specs.declared.change.Change.{Change}
 use Rattle.fk_trace.specs.Trace.{is_turn}
 use Rattle.fk_trace.specs.Decision.{FeedTurn}
-use Rattle.fk_trace.specs.Ledger.{after, live}
+use Rattle.fk_trace.specs.Ledger.{after, live, AreNoFloors}
 use Rattle.fk_run.specs.Place.{Place, entry}
 use Rattle.fk_run.specs.Turn.{TakenTurn}
 use Rattle.fk_run.specs.Run.{Run, Ending, turns_of, trace_of, changes_of}
@@ -114,7 +114,7 @@ pub record HoldsCrash (run : Run) (tried : List Change) (least moment : ℕ) (im
 pub record AddsTurns (run : Run) (tried : List Change) (old new : View) : Type 0 where
   pub trace : IfTold old.told new.told (AddsItems (trace_of run))
   pub moments : IfTold old.told new.told (Moments (HoldsCrash run tried) (length (changes_of run)) old.images new.images)
-  pub others : SparesOthers old new
+  pub others : AreNoFloors tried → SparesOthers old new
 
 -- the session begins with this ledger
 pub record Begins (task : Task) (ledger : List Change) (at : Standing) : Type 0 where

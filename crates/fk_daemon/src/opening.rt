@@ -23,7 +23,7 @@ pub(crate) fn open_daemon<H: Host>(
     ensures vain { let view = view_of H.Disk in IfErr result (λ _. OpensInVain (view host.old) (view host.new)) }
     ensures cause { let view = view_of H.Disk in IfErr result (λ fault. HasOpeningCause fault (view host.old) (view host.new)) }
 {
-    let (ledger, owed) = Ledger::open(alloc, host, conf.room, conf.live)?;
+    let (ledger, owed) = Ledger::open(alloc, host, conf.room, conf.live, conf.keep)?;
     match Daemon::resume(alloc, ledger, owed) {
         Ok(daemon) => Ok(daemon),
         Err((ledger, owed, NoMemory)) => {

@@ -42,6 +42,7 @@ fn head_byte(area: Area) -> u8
 pub(crate) fn empty_area<D: Disk>(disk: &mut D, area: Area) -> Result<(), Failed>
     ensures moments { IfTold (D.told disk.old) (D.told disk.new) (Touches area 2 (D.may_leave disk.old) (D.may_leave disk.new)) }
     ensures ok { OnOk result (IfTold (D.told disk.old) (D.told disk.new) (λ before after. area_of area after.areas ≡ 2 ∷ [])) }
+    ensures calls { OnOk result (IfTold (D.told disk.old) (D.told disk.new) (λ before after. after.moments ≡ before.moments + 2)) }
     ensures host { LeavesHost D.told D.above disk.old disk.new }
     ensures cause { HasCause (D.faults disk.old) (D.faults disk.new) result }
 {
@@ -60,6 +61,7 @@ pub(crate) fn add_copied<D: Disk>(
     ensures within { OnOk result (end + length entry.now ≤ 2 ^ 40) }
     ensures moments { IfTold (D.told disk.old) (D.told disk.new) (Touches area 1 (D.may_leave disk.old) (D.may_leave disk.new)) }
     ensures ok { OnOk result (IfTold (D.told disk.old) (D.told disk.new) (λ before after. area_of area after.areas ≡ area_of area before.areas ++ entry.now)) }
+    ensures calls { OnOk result (IfTold (D.told disk.old) (D.told disk.new) (λ before after. after.moments ≡ before.moments + 1)) }
     ensures host { LeavesHost D.told D.above disk.old disk.new }
     ensures cause { HasCause (D.faults disk.old) (D.faults disk.new) result }
 {

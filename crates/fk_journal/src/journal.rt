@@ -119,6 +119,7 @@ impl Journal {
     /// Appends an entry by four calls of the disk: what is behind the closing gate and its sync, then that gate and its sync.
     pub fn append<D: Disk>(&mut self, disk: &mut D, kind: u8, payload: &[u8]) -> Result<(), Failed>
         requires unspent { self.old.is_spent ≡ false }
+        requires idle { self.old.is_copying ≡ false }
         requires content { IsContent (record { kind = kind; payload = payload.now }) }
         requires reserved { length payload.now ≤ self.old.reserved }
         requires keeps { (contents : List Content) × Keeps self.old contents (D.told disk.old) (D.may_leave disk.old) }
@@ -161,6 +162,7 @@ impl Journal {
         ensures moments { (contents : List Content) → Keeps self.old contents (D.told disk.old) (D.may_leave disk.old)
             → IfTold (D.told disk.old) (D.told disk.new) (CopyMoments 2 (HoldsIn self.old.area contents) (D.may_leave disk.old) (D.may_leave disk.new)) }
         ensures others { IfTold (D.told disk.old) (D.told disk.new) (LeavesAllBut (other_area self.old.area) (D.may_leave disk.old) (D.may_leave disk.new)) }
+        ensures calls { OnOk result (IfTold (D.told disk.old) (D.told disk.new) (λ before after. after.moments ≡ before.moments + 2)) }
         ensures ok { OnOk result (self.new ≡ record self.old { is_copying = true; copied_end = 1 }) }
         ensures err { OnErr result (self.new ≡ record self.old { is_spent = true }) }
         ensures host { LeavesHost D.told D.above disk.old disk.new }
@@ -194,6 +196,7 @@ impl Journal {
         ensures moments { (contents : List Content) → Keeps self.old contents (D.told disk.old) (D.may_leave disk.old)
             → IfTold (D.told disk.old) (D.told disk.new) (CopyMoments 1 (HoldsIn self.old.area contents) (D.may_leave disk.old) (D.may_leave disk.new)) }
         ensures others { IfTold (D.told disk.old) (D.told disk.new) (LeavesAllBut (other_area self.old.area) (D.may_leave disk.old) (D.may_leave disk.new)) }
+        ensures calls { OnOk result (IfTold (D.told disk.old) (D.told disk.new) (λ before after. after.moments ≡ before.moments + 1)) }
         ensures ok { OnOk result (self.new ≡ record self.old { copied_end = self.old.copied_end + 6 + length payload.now }) }
         ensures err { OnErr result (self.new ≡ record self.old { is_spent = true }) }
         ensures host { LeavesHost D.told D.above disk.old disk.new }
@@ -254,6 +257,13 @@ impl Journal {
         ensures { result ≡ self.now.limit - (self.now.end + 1) }
     {
         self.limit.saturating_sub(self.end).saturating_sub(1)
+    }
+
+    /// How many bytes it may use.
+    pub fn limit(&self) -> u64
+        ensures { result ≡ self.now.limit }
+    {
+        self.limit
     }
 
     /// Whether a call failed, so that the journal has to be opened again.

@@ -9,3 +9,5 @@ mod Rows
 mod OpeningLaws
 pub mod LedgerLaws
 pub mod StretchLaws
+mod IndexLaws
+mod OutlineLaws

@@ -1,17 +1,17 @@
 -- The moments of an opening, and what is damaged.
 use Rattle.std.proofs.Common.{◌≡◌, ℕ, Bool, true, false, List, sym, ap, subst, inl, inr, Option, Some, None, Err}
-use Rattle.std.specs.Prelude.{Result}
+use Rattle.std.specs.Prelude.{Result, IfSome}
 use Rattle.fk_trace.specs.declared.change.Change.{Change}
 use Rattle.fk_host.specs.Disk.{Areas, Told, IfTold}
 use Rattle.fk_journal.specs.declared.fault.JournalErr.{JournalErr}
 use Rattle.fk_journal.specs.Entries.{Content, IsClosedBehind, HoldsEntries, IsDamagedAt}
-use Rattle.fk_journal.specs.Keeps.{Log, Keeps, selected, IsOpening}
+use Rattle.fk_journal.specs.Keeps.{Log, Keeps, selected, IsSettled, IsOpening}
 use Rattle.fk_journal.proofs.Told.{if_told_map}
 use Rattle.fk_journal.proofs.Uniqueness.{one_list, same_held}
 use Rattle.fk_ledger.specs.Payloads.{ledger_contents}
-use Rattle.fk_ledger.specs.Holds.{HoldsLedger, IsLedgerDamagedAt}
+use Rattle.fk_ledger.specs.Holds.{HoldsLedger, KeepsLedger, IsLedgerDamagedAt}
 use Rattle.fk_ledger.specs.Stretch.{IsLedgerOpening}
-use Rattle.fk_ledger.specs.Private.{BreakAt}
+use Rattle.fk_ledger.specs.Private.{AreLedger, BreakAt}
 use Rattle.fk_ledger.proofs.StretchLaws.{held_state}
 
 opening : (ledger : List Change) (whole : Bool) (old new : ℕ → Areas → Type 0) (x y : Told) → IsOpening old new x y → HoldsLedger x.areas ledger
@@ -69,3 +69,22 @@ pub entry_damaged : (contents : List Content) (place : ℕ) (s t : Option Told) 
 entry_damaged contents place s t breaks entries =
     if_told_map s t (λ x y. HoldsEntries (selected x.areas) contents) (λ x y. IsLedgerDamagedAt x.areas place)
     (λ x y e. inr (record { before = breaks.before; content = breaks.content; later = breaks.later; entries = subst (HoldsEntries (selected x.areas)) breaks.parts e; each = breaks.each; follow = breaks.follow; broken = breaks.broken; placed = breaks.placed })) entries
+
+-- ---- what was read is held, and kept
+
+pub held_of : (contents : List Content) (found items : List Change) (s t : Option Told) → AreLedger contents found → items ≡ found
+    → IfTold s t (λ x y. HoldsEntries (selected x.areas) contents) → IfTold s t (λ x y. HoldsLedger x.areas items)
+held_of contents found items s t are same entries =
+    subst (λ (ledger : List Change). IfTold s t (λ x y. HoldsLedger x.areas ledger)) (sym same)
+    (if_told_map s t (λ x y. HoldsEntries (selected x.areas) contents) (λ x y. HoldsLedger x.areas found)
+    (λ x y e. record { entries = subst (HoldsEntries (selected x.areas)) are.entries e; each = are.each; follow = are.follow }) entries)
+
+pub kept_of : (contents : List Content) (found items : List Change) (log : Log) (t : Option Told) (images : ℕ → Areas → Type 0) → AreLedger contents found → items ≡ found
+    → Keeps log contents t images → KeepsLedger items t images
+kept_of contents found items log t images are same keeps =
+    subst (λ (ledger : List Change). KeepsLedger ledger t images) (sym same)
+    (record {
+      each = are.each;
+      follow = are.follow;
+      held = subst (λ (cs : List Content). IfSome t (λ now. IsClosedBehind cs (selected now.areas) × IsSettled now images)) are.entries keeps.held;
+    })

@@ -1,6 +1,6 @@
 -- How many bytes and how many live records a ledger has, and one more change of it.
 use Rattle.std.proofs.Common.{◌≡◌, ℕ, ◌+◌, ◌-◌, ◌*◌, ◌<◌, ◌≤◌, ◌==◌, ◌^◌, min, max, Bool, true, false, not, cond, List, [], ◌∷◌, ◌++◌, length, map, drop, get_or, refl, sym, ap, subst, ◌∙◌, arith, inl, inr, append_assoc, append-nil, Option, Some, None, Vec, Global, vec_capacity}
-use Rattle.std.specs.Prelude.{nat_lt, nat_le}
+use Rattle.std.specs.Prelude.{nat_lt, nat_le, ◌&&◌}
 use Rattle.std.specs.List.{sum_by, filter, AllByRecursion, Contains, list_any}
 use Rattle.std.proofs.lemmas.List.{length-append, length-map, length_push, drop_more}
 use Rattle.std.proofs.lemmas.List.Sums.{sum_by-append}
@@ -9,8 +9,10 @@ use Rattle.std.proofs.lemmas.Bool.Decides.{nat_tests}
 use Rattle.fk_trace.specs.declared.change.OpenRecord.{OpenRecord}
 use Rattle.fk_trace.specs.declared.change.Change.{Change}
 use Rattle.fk_trace.specs.declared.change.Change.TheVariants.{Open, Done, Settled, Floor}
-use Rattle.fk_trace.specs.Ledger.{opens, dones, live, numbers, free_by, first_free, floor_of, next_by, next_from, next_id, IsNumber, MayFollow, MayMake, IsLedger, IsLedgerFrom}
-use Rattle.fk_trace.specs.Decision.{making}
+use Rattle.std.specs.HashSet.{spare}
+use Rattle.fk_ledger.specs.Index.{holds}
+use Rattle.fk_ledger.proofs.IndexLaws.{indexed_done}
+use Rattle.fk_trace.specs.Ledger.{is_seen, opens, dones, live, numbers, free_by, first_free, floor_of, next_by, next_from, next_id, IsNumber, MayFollow, MayMake, IsLedger, IsLedgerFrom}
 use Rattle.fk_trace.proofs.Lists.{Contains-cases}
 use Rattle.fk_trace.proofs.Ledgers.{opens-append, dones-append, numbers-append, floor_from-append, opens-push_open, opens-push_done, dones-push_open, dones-push_done, live-push_open, live-push_done, next_from-above, next_id-push, next_id-push_open, none_at_bound}
 use Rattle.fk_host.specs.Disk.{Areas, Told}
@@ -18,7 +20,7 @@ use Rattle.fk_journal.specs.Entries.{Content, entry_bytes, entries_bytes, place_
 use Rattle.fk_journal.specs.Keeps.{Log, Keeps, StandsOn}
 use Rattle.fk_ledger.specs.declared.ledger.Ledger.TheInside.{Inside}
 use Rattle.fk_ledger.specs.Payloads.{content_of, ledger_contents, record_bytes, IsRecord, IsChange}
-use Rattle.fk_ledger.specs.Book.{Book, used, needs, room_of, live_ids}
+use Rattle.fk_ledger.specs.Book.{Book, used, needs, making_record, live_ids}
 use Rattle.fk_ledger.specs.Holds.{KeepsLedger}
 use Rattle.fk_ledger.specs.Private.{book_of, AreLedger, IsInOrder}
 use Rattle.fk_ledger.proofs.WordLists.{length-record, short_words}
@@ -258,10 +260,6 @@ next_fits ledger i next change within at so_far small =
 
 -- ---- room
 
-none_cond : (b : Bool) (changes : List Change) → cond b (Some changes) None ≡ None → b ≡ false
-none_cond true changes e = absurd cc
-none_cond false changes e = refl
-
 -- what a ledger needs with one more record
 pub needs_opened : (ledger : List Change) (item : OpenRecord) → IsLedger ledger → item.id ≡ next_id ledger
     → needs (ledger ++ Open item ∷ []) ≡ used ledger + (6 + length (record_bytes item)) + 14 * (length (live ledger) + 1)
@@ -270,23 +268,27 @@ needs_opened ledger item follow at = let bytes = used-push ledger (Open item) in
 -- nothing is made for a record that has its place exactly where the bytes behind it are too few
 pub full_where : (book : Book) (item : OpenRecord) (lives used_to size room : ℕ) → IsLedger book.changes → MayMake book.changes (Open item) → lives ≡ length (live book.changes) → used book.changes ≡ used_to + 1
     → lives < book.limit → next_id book.changes < 2 ^ 63 → size ≡ length (record_bytes item) → room ≡ book.room - (used_to + 1)
-    → (nat_le (6 + size + 14 * (lives + 1)) room ≡ false → making (room_of book) book.changes (Open item) ≡ None) × (making (room_of book) book.changes (Open item) ≡ None → nat_le (6 + size + 14 * (lives + 1)) room ≡ false)
+    → (nat_le (6 + size + 14 * (lives + 1)) room ≡ false → making_record book item ≡ None) × (nat_le (6 + size + 14 * (lives + 1)) room ≡ true → making_record book item ≡ Some (Open item ∷ []))
 full_where book item lives used_to size room follow may counted bytes few low sizes left =
     let need = needs_opened book.changes item follow may.0 in
     let place_live : nat_lt (length (live book.changes)) book.limit ≡ true = grind (arith, nat_tests) in
     let place_next : nat_lt (next_id book.changes) 9223372036854775808 ≡ true = grind (arith, nat_tests) in
     let total : ℕ = needs (book.changes ++ Open item ∷ []) in
     let same : nat_le (6 + size + 14 * (lives + 1)) room ≡ nat_le total book.room = grind (arith, nat_tests) in
-    let made : making (room_of book) book.changes (Open item) ≡ cond (nat_le total book.room) (Some (Open item ∷ [])) None = rw (place_live, place_next) refl in
-    (λ no. made ∙ rw (sym same ∙ no) refl, λ none. same ∙ none_cond (nat_le total book.room) (Open item ∷ []) (sym made ∙ none))
+    let made : making_record book item ≡ cond (nat_le total book.room) (Some (Open item ∷ [])) None = rw (place_live, place_next) refl in
+    (λ no. made ∙ rw (sym same ∙ no) refl, λ yes. made ∙ rw (sym same ∙ yes) refl)
 
 -- ---- the order after one more change
 
+-- its index is that of the ledger
+abbrev pub IndexesIn : Inside → List Change → Type 0
+IndexesIn like ledger = (digest : List ℕ) → holds digest like.index ≡ is_seen digest ledger
+
 pub order_opened : (inside : Inside) (journal : Log) (changes : Vec Change Global) (payload : Vec ℕ Global) (item : OpenRecord) (size : ℕ) → IsInOrder inside → IsLedger inside.changes.items → item.id ≡ next_id inside.changes.items
     → size ≡ length (record_bytes item) → journal ≡ record inside.journal { end = inside.journal.end + 6 + size } → changes.items ≡ inside.changes.items ++ Open item ∷ [] → vec_capacity changes ≡ vec_capacity inside.changes
-    → length inside.changes.items + inside.live + 2 ≤ vec_capacity inside.changes
-    → IsInOrder (record { journal = journal; changes = changes; live = inside.live + 1; next = item.id + 1; floor = inside.floor; limit = inside.limit; payload = payload })
-order_opened inside journal changes payload item size order follow at sizes journal_is items capacity slots =
+    → length inside.changes.items + inside.live + 2 ≤ vec_capacity inside.changes → (like : Inside) → IndexesIn like (inside.changes.items ++ Open item ∷ [])
+    → IsInOrder (record { journal = journal; changes = changes; index = like.index; live = inside.live + 1; next = item.id + 1; floor = inside.floor; limit = inside.limit; keep = inside.keep; payload = payload })
+order_opened inside journal changes payload item size order follow at sizes journal_is items capacity slots like indexed =
     let ledger : List Change = inside.changes.items in
     let lives = live_opened ledger item follow at in
     let bytes : used (ledger ++ Open item ∷ []) ≡ used ledger + (6 + length (record_bytes item)) = used-push ledger (Open item) in
@@ -302,6 +304,8 @@ order_opened inside journal changes payload item size order follow at sizes jour
       used = ap used items ∙ bytes ∙ omega arith;
       room = omega arith;
       reserved = (let low = order.reserved in omega arith);
+      idle = ap (λ (l : Log). l.is_copying) journal_is ∙ order.idle;
+      index = λ digest. indexed digest ∙ ap (is_seen digest) (sym items);
     }
 
 pub order_settled : (inside : Inside) (journal : Log) (changes : Vec Change Global) (id : ℕ) (size : ℕ) → IsInOrder inside → IsLedger inside.changes.items → Contains (map (λ item. item.id) (live inside.changes.items)) id
@@ -324,18 +328,43 @@ order_settled inside journal changes id size order follow there sizes journal_is
       used = ap used items ∙ bytes ∙ omega arith;
       room = (let fits = order.room in omega arith);
       reserved = (let low = order.reserved in omega arith);
+      idle = ap (λ (l : Log). l.is_copying) journal_is ∙ order.idle;
+      index = λ digest. indexed_done inside.index inside.index ledger order.index id digest ∙ ap (is_seen digest) (sym items);
     }
 
--- what is reserved for a record has room for its change and for each Done
-pub slots : (inside : Inside) (n : ℕ) → 0 < n → n ≤ (book_of inside).reserved → length inside.changes.items + inside.live + 2 ≤ vec_capacity inside.changes
+-- room was made in memory
+pub order_reserved : (inside other : Inside) → IsInOrder inside → other.journal ≡ record inside.journal { reserved = other.journal.reserved } → inside.journal.reserved ≤ other.journal.reserved
+    → other.changes.items ≡ inside.changes.items → vec_capacity inside.changes ≤ vec_capacity other.changes
+    → ((digest : List ℕ) → holds digest other.index ≡ holds digest inside.index)
+    → other.live ≡ inside.live → other.next ≡ inside.next → other.floor ≡ inside.floor → IsInOrder other
+order_reserved inside other order journal_is more items capacity held lives nexts floors =
+    let end_is : other.journal.end ≡ inside.journal.end = ap (λ (l : Log). l.end) journal_is in
+    let len = ap length items in
+    record {
+      live = lives ∙ order.live ∙ ap (λ (xs : List Change). length (live xs)) (sym items);
+      next = nexts ∙ order.next ∙ ap next_id (sym items);
+      floor = floors ∙ order.floor ∙ ap floor_of (sym items);
+      used = ap used items ∙ order.used ∙ ap (λ (n : ℕ). n + 1) (sym end_is);
+      room = (let fits = order.room in omega arith);
+      reserved = (let low = order.reserved in omega arith);
+      idle = ap (λ (l : Log). l.is_copying) journal_is ∙ order.idle;
+      index = λ digest. held digest ∙ order.index digest ∙ ap (is_seen digest) (sym items);
+    }
+
+-- what is reserved for a record has room for its change, for each Done and for its digest
+pub slots : (inside : Inside) (n : ℕ) → 0 < n → n ≤ (book_of inside).reserved → (length inside.changes.items + inside.live + 2 ≤ vec_capacity inside.changes) × (0 < spare inside.index)
 slots inside n some within =
     let a : ℕ = length inside.changes.items + inside.live + 2 in
     let m : ℕ = min (vec_capacity inside.payload) inside.journal.reserved in
-    let P : Bool → Type 0 = λ b. b ≡ nat_le a (vec_capacity inside.changes) → n ≤ cond b m 0 → a ≤ vec_capacity inside.changes in
-    let here : P (nat_le a (vec_capacity inside.changes)) = elim (nat_le a (vec_capacity inside.changes)) as P [
-      | true ↦ λ is within. grind (arith, nat_tests)
-      | false ↦ λ is within. absurd (omega arith)
-    ] in here refl within
+    let P : Bool → Bool → Type 0 = λ b d. b ≡ nat_le a (vec_capacity inside.changes) → d ≡ nat_lt 0 (spare inside.index) → n ≤ cond (b && d) m 0
+    → (a ≤ vec_capacity inside.changes) × (0 < spare inside.index) in
+    let here : P (nat_le a (vec_capacity inside.changes)) (nat_lt 0 (spare inside.index)) = elim (nat_le a (vec_capacity inside.changes)) as (λ b. P b (nat_lt 0 (spare inside.index))) [
+      | true ↦ elim (nat_lt 0 (spare inside.index)) as (λ d. P true d) [
+        | true ↦ λ is also within. (grind (arith, nat_tests), grind (arith, nat_tests))
+        | false ↦ λ is also within. absurd (omega arith)
+      ]
+      | false ↦ λ is also within. absurd (omega arith)
+    ] in here refl refl within
 
 pub long_record : (item : OpenRecord) → 0 < length (record_bytes item)
 long_record item = let all = length-record item in omega arith
@@ -348,10 +377,10 @@ small_record item is =
     omega arith
 
 -- the order of a ledger that was found
-pub order_found : (journal : Log) (changes : Vec Change Global) (limit lives next floor : ℕ) (payload : Vec ℕ Global) (found : List Change) (ids : List ℕ) (contents : List Content) → AreLedger contents found
-    → journal.end ≡ place_behind contents → 8 ≤ journal.reserved → changes.items ≡ found → ids ≡ live_ids found → lives ≡ length ids → length found + length ids ≤ vec_capacity changes
-    → next ≡ next_id found → floor ≡ floor_of found → IsInOrder (record { journal = journal; changes = changes; live = lives; next = next; floor = floor; limit = limit; payload = payload })
-order_found journal changes limit lives next floor payload found ids contents are end reserved items ids_are lives_are fits next_is floor_is =
+pub order_found : (journal : Log) (changes : Vec Change Global) (like : Inside) (limit keep lives next floor : ℕ) (payload : Vec ℕ Global) (found : List Change) (ids : List ℕ) (contents : List Content) → AreLedger contents found
+    → journal.end ≡ place_behind contents → 8 ≤ journal.reserved → journal.is_copying ≡ false → changes.items ≡ found → ids ≡ live_ids found → lives ≡ length ids → length found + length ids ≤ vec_capacity changes
+    → next ≡ next_id found → floor ≡ floor_of found → IndexesIn like found → IsInOrder (record { journal = journal; changes = changes; index = like.index; live = lives; next = next; floor = floor; limit = limit; keep = keep; payload = payload })
+order_found journal changes like limit keep lives next floor payload found ids contents are end reserved idle items ids_are lives_are fits next_is floor_is indexed =
     let counted : length ids ≡ length (live found) = ap length ids_are ∙ length-map (live found) (λ (item : OpenRecord). item.id) in
     let place : used found ≡ place_behind (ledger_contents found) + 1 = used-place found in
     let same : place_behind contents ≡ place_behind (ledger_contents found) = ap place_behind are.entries in
@@ -363,4 +392,6 @@ order_found journal changes limit lives next floor payload found ids contents ar
       used = ap used items ∙ omega arith;
       room = omega arith;
       reserved = reserved;
+      idle = idle;
+      index = λ digest. indexed digest ∙ ap (is_seen digest) (sym items);
     }

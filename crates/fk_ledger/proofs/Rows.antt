@@ -41,14 +41,14 @@ settled_row : used (first ++ Done 1 ∷ []) ≡ 112
 settled_row = refl
 
 -- so a room of 112 bytes takes it, and one of 111 does not
-room_row : making (room_within 112 1) [] (Open (recorded 1 170)) ≡ Some first
+room_row : making (room_within 112 1 86400) 1700000000 [] (Open (recorded 1 170)) ≡ Some first
 room_row = refl
 
-full_row : making (room_within 111 1) [] (Open (recorded 1 170)) ≡ None
+full_row : making (room_within 111 1 86400) 1700000000 [] (Open (recorded 1 170)) ≡ None
 full_row = refl
 
 -- one that may live is enough, and none is not
-limit_row : making (room_within 112 0) [] (Open (recorded 1 170)) ≡ None
+limit_row : making (room_within 112 0 86400) 1700000000 [] (Open (recorded 1 170)) ≡ None
 limit_row = refl
 
 -- the floor 1700013600 with the next number 2

@@ -4,3 +4,4 @@ pub mod Stretch
 pub mod Book
 pub mod Private
 pub mod Reading
+pub mod Index

@@ -1,12 +1,13 @@
 -- What the contracts of this crate's private functions alone speak of. No public contract cites it, so no caller has to believe it.
-use Rattle.std.specs.Prelude.{◌≡◌, ◌≢◌, [], ℕ, ◌==◌, nat_eq, Bool, true, false, ◌+◌, ◌≤◌, nat_lt, nat_le, min, not, map, List, ◌∷◌, ◌++◌, length, if◌then◌else◌, vec_capacity}
+use Rattle.std.specs.Prelude.{◌≡◌, ◌≢◌, [], ℕ, ◌==◌, nat_eq, Bool, true, false, ◌+◌, ◌≤◌, ◌&&◌, nat_lt, nat_le, min, not, map, List, ◌∷◌, ◌++◌, length, if◌then◌else◌, vec_capacity}
 use Rattle.std.specs.List.{AllByRecursion, AllPass, filter, list_any}
 use Rattle.fk_base.specs.Characters.{is_word_byte}
 use Rattle.fk_trace.specs.declared.change.OpenRecord.{OpenRecord}
 use Rattle.fk_trace.specs.declared.change.Change.{Change}
 use Rattle.fk_trace.specs.declared.change.Change.TheVariants.{Open, Done, Settled, Floor}
 use Rattle.std.specs.Cmp.Lexicographic.{pointwise}
-use Rattle.fk_trace.specs.Ledger.{live, next_id, floor_of, IsLedger}
+use Rattle.fk_trace.specs.Ledger.{live, is_seen, next_id, floor_of, IsLedger}
+use Rattle.std.specs.HashSet.{contains, spare}
 use Rattle.fk_journal.specs.Entries.{Content, place_behind}
 use Rattle.fk_ledger.specs.declared.ledger.Ledger.TheInside.{Inside}
 use Rattle.fk_ledger.specs.Book.{Book, used}
@@ -18,9 +19,10 @@ abbrev pub book_of : Inside → Book
 book_of ledger = record {
   changes = ledger.changes.items;
   limit = ledger.limit;
+  keep = ledger.keep;
   area = ledger.journal.area;
   room = ledger.journal.limit;
-  reserved = if nat_le (length ledger.changes.items + ledger.live + 2) (vec_capacity ledger.changes) then min (vec_capacity ledger.payload) ledger.journal.reserved else 0;
+  reserved = if nat_le (length ledger.changes.items + ledger.live + 2) (vec_capacity ledger.changes) && nat_lt 0 (spare ledger.index) then min (vec_capacity ledger.payload) ledger.journal.reserved else 0;
   is_spent = ledger.journal.is_spent;
 }
 
@@ -32,6 +34,8 @@ pub record IsInOrder (ledger : Inside) : Type 0 where
   pub used : used ledger.changes.items ≡ ledger.journal.end + 1
   pub room : length ledger.changes.items + ledger.live ≤ vec_capacity ledger.changes
   pub reserved : 8 ≤ ledger.journal.reserved
+  pub idle : ledger.journal.is_copying ≡ false
+  pub index : (digest : List ℕ) → contains (pointwise nat_eq) ledger.index digest ≡ is_seen digest ledger.changes.items
 
 -- the entries are those of a ledger
 pub record AreLedger (contents : List Content) (ledger : List Change) : Type 0 where

@@ -1,15 +1,20 @@
 //! Lists of changes: read from a journal's entries, and asked for what they say.
-ghost use Rattle.std.specs.Prelude.{◌≡◌, ◌↔◌, ℕ, ◌==◌, ◌<◌, ◌^◌, [], ◌∷◌, IfOk, IsErrOf, IsTrue};
-ghost use Rattle.std.specs.List.{find, list_all, list_any};
+ghost use Rattle.std.specs.Prelude.{◌≡◌, ◌↔◌, ℕ, List, ◌==◌, nat_eq, nat_le, not, ◌&&◌, ◌<◌, ◌^◌, [], ◌∷◌, IfOk, IsErrOf, IsTrue};
+ghost use Rattle.std.specs.List.{find, list_any};
 ghost use Rattle.std.specs.Option.{option_copied, option_to_list};
+ghost use Rattle.fk_trace.specs.declared.change.Change.{Change};
 ghost use Rattle.fk_trace.specs.Ledger.{live, opened_by, opens, floor_by, floor_of, first_free, next_by, next_id, IsNumber, IsSeen, MayFollow};
 ghost use Rattle.fk_journal.specs.Entries.{ArePlacedFrom, content_of_entry, contents_of};
 ghost use Rattle.fk_journal.specs.declared.fault.JournalErr.TheVariants.{Disk as DiskFails};
 ghost use Rattle.fk_ledger.specs.Book.{live_ids};
 ghost use Rattle.fk_ledger.specs.Holds.{IsBroken};
 ghost use Rattle.fk_ledger.specs.Payloads.{content_of, IsChange};
-ghost use Rattle.fk_ledger.specs.Private.{AreLedger, BreakAt, has_digest, ids_of, is_below, opens_id, settles_id};
+ghost use Rattle.fk_ledger.specs.Private.{AreLedger, BreakAt, has_digest, ids_of, opens_id, settles_id};
+ghost use Rattle.fk_ledger.specs.Index.{Outlines};
+ghost use Rattle.std.specs.HashSet.{contains};
 
+use crate::index::holds;
+use crate::outline::{Outline, empty_outline, note};
 use crate::reading::{PayloadErr, change_in};
 use crate::{LedgerErr, Owed};
 use fk_base::Digest;
@@ -25,23 +30,49 @@ pub(crate) fn changes_of(alloc: Global, entries: &[Entry]) -> Result<Vec<Change>
     ensures damaged { (place : ℕ) → IsErrOf result (LedgerErr.Damaged place) → BreakAt (contents_of entries.now) place }
     ensures other { IsErrOf result DiskFails → ⊥ }
 {
-    let mut changes = Vec::new(alloc);
-    for entry in entries {
-        changes.push(next_change(alloc, &changes, entry)?)?;
+    match outlined_changes_of(alloc, entries) {
+        Ok((changes, _outline)) => Ok(changes),
+        Err(fault) => Err(fault),
     }
-    Ok(changes)
+}
+
+/// The ledger that the entries are, and its outline, or the place of the first that is broken.
+pub(crate) fn outlined_changes_of(
+    alloc: Global,
+    entries: &[Entry],
+) -> Result<(Vec<Change>, Outline), LedgerErr>
+    requires { ArePlacedFrom 1 entries.now }
+    ensures held { IfOk result (λ r. AreLedger (contents_of entries.now) r.0.items) }
+    ensures numbers { IfOk result (λ r. next_id r.0.items < 2 ^ 64) }
+    ensures outline { IfOk result (λ r. Outlines r.1 r.0.items) }
+    ensures damaged { (place : ℕ) → IsErrOf result (LedgerErr.Damaged place) → BreakAt (contents_of entries.now) place }
+    ensures other { IsErrOf result DiskFails → ⊥ }
+{
+    let mut changes = Vec::new(alloc);
+    let mut outline = empty_outline(alloc);
+    for entry in entries {
+        let change = next_change(alloc, &changes, &outline, entry)?;
+        note(&mut outline, &change)?;
+        changes.push(change)?;
+    }
+    Ok((changes, outline))
 }
 
 /// The change that the entry says, where it may stand behind the others.
-fn next_change(alloc: Global, changes: &[Change], entry: &Entry) -> Result<Change, LedgerErr>
-    requires { next_id changes.now < 2 ^ 64 }
+fn next_change(
+    alloc: Global,
+    changes: &[Change],
+    outline: &Outline,
+    entry: &Entry,
+) -> Result<Change, LedgerErr>
+    requires { Outlines outline.now changes.now }
     ensures found { IfOk result (λ change. IsChange change × (content_of_entry entry.now ≡ content_of change) × MayFollow changes.now change) }
     ensures damaged { (place : ℕ) → IsErrOf result (LedgerErr.Damaged place) → (place ≡ entry.now.place) × IsBroken changes.now (content_of_entry entry.now) }
     ensures other { IsErrOf result DiskFails → ⊥ }
 {
     match change_in(alloc, entry.kind, entry.payload.as_slice()) {
         Ok(change) => {
-            if may_follow(changes, &change) {
+            if may_follow(changes, outline, &change) {
                 Ok(change)
             } else {
                 Err(LedgerErr::Damaged(entry.place))
@@ -53,49 +84,46 @@ fn next_change(alloc: Global, changes: &[Change], entry: &Entry) -> Result<Chang
 }
 
 /// Whether the change may stand behind the others.
-fn may_follow(changes: &[Change], change: &Change) -> bool
-    requires { next_id changes.now < 2 ^ 64 }
+fn may_follow(changes: &[Change], outline: &Outline, change: &Change) -> bool
+    requires { Outlines outline.now changes.now }
     ensures { IsTrue result ↔ MayFollow changes.now change.now }
 {
     match change {
-        Change::Open(item) => is_new(changes, item.id, &item.digest),
-        Change::Done(id) => live_record(changes, *id).is_some(),
-        Change::Settled { id, digest, .. } => is_new(changes, *id, digest),
+        Change::Open(item) => is_new(changes, outline, item.id, &item.digest),
+        Change::Done(id) => is_live(outline, *id),
+        Change::Settled { id, digest, .. } => is_new(changes, outline, *id, digest),
         Change::Floor { .. } => changes.is_empty(),
     }
 }
 
 /// Whether a record may have this number and digest.
-fn is_new(changes: &[Change], id: u64, digest: &Digest) -> bool
-    requires { next_id changes.now < 2 ^ 64 }
+fn is_new(changes: &[Change], outline: &Outline, id: u64, digest: &Digest) -> bool
+    requires { Outlines outline.now changes.now }
     ensures { IsTrue result ↔ (IsNumber changes.now id × (IsSeen digest.now.0 changes.now → ⊥)) }
 {
-    is_number(changes, id) && !is_seen(changes, digest)
+    is_number(changes, outline, id) && !holds(&outline.digests, digest)
 }
 
 /// Whether a record may have this number.
-fn is_number(changes: &[Change], id: u64) -> bool
-    requires { next_id changes.now < 2 ^ 64 }
+fn is_number(changes: &[Change], outline: &Outline, id: u64) -> bool
+    requires { Outlines outline.now changes.now }
     ensures { IsTrue result ↔ IsNumber changes.now id }
 {
-    are_below(changes, id) && (id < first_free(changes) || id == next_id(changes))
+    are_below(outline, id) && (id < first_free(changes) || id == outline.next)
 }
 
 /// Whether each record has a number below this one.
-fn are_below(changes: &[Change], id: u64) -> bool
-    ensures { result ≡ list_all (is_below id) changes.now }
+fn are_below(outline: &Outline, id: u64) -> bool
+    ensures { result ≡ nat_le outline.now.above id }
 {
-    changes.iter().all(|change| is_below(change, id))
+    outline.above <= id
 }
 
-fn is_below(change: &Change, id: u64) -> bool
-    ensures { result ≡ is_below id change.now }
+/// Whether a record of this number is there that is not closed for good.
+fn is_live(outline: &Outline, id: u64) -> bool
+    ensures { result ≡ (contains nat_eq outline.now.opened id && not (contains nat_eq outline.now.closed id)) }
 {
-    match change {
-        Change::Open(item) => item.id < id,
-        Change::Settled { id: settled, .. } => *settled < id,
-        Change::Done(_) | Change::Floor { .. } => true,
-    }
+    outline.opened.contains(&id) && !outline.closed.contains(&id)
 }
 
 /// The first number that was free where the ledger began.
@@ -108,37 +136,8 @@ fn first_free(changes: &[Change]) -> u64
     }
 }
 
-/// Whether a record has this digest.
-pub(crate) fn is_seen(changes: &[Change], digest: &Digest) -> bool
-    ensures { result ≡ list_any (has_digest digest.now.0) changes.now }
-{
-    changes.iter().any(|change| has_digest(change, digest))
-}
-
-fn has_digest(change: &Change, digest: &Digest) -> bool
-    ensures { result ≡ has_digest digest.now.0 change.now }
-{
-    match change {
-        Change::Open(item) => item.digest == *digest,
-        Change::Settled { digest: other, .. } => *other == *digest,
-        Change::Done(_) | Change::Floor { .. } => false,
-    }
-}
-
-/// The number of the next record.
-pub(crate) fn next_id(changes: &[Change]) -> u64
-    requires { next_id changes.now < 2 ^ 64 }
-    ensures { result ≡ next_id changes.now }
-{
-    let mut next = 1;
-    for change in changes {
-        next = next_by(change, next);
-    }
-    next
-}
-
 /// The number of the next record after the change, where it was this one before it.
-fn next_by(change: &Change, next: u64) -> u64
+pub(crate) fn next_by(change: &Change, next: u64) -> u64
     requires { next_by change.now next < 2 ^ 64 }
     ensures { result ≡ next_by change.now next }
 {
@@ -223,12 +222,17 @@ fn settles_id(change: &Change, id: u64) -> bool
 }
 
 /// The numbers of the live records, rising.
-pub(crate) fn live_ids(alloc: Global, changes: &[Change]) -> Result<Vec<u64>, AllocError>
+pub(crate) fn live_ids(
+    alloc: Global,
+    changes: &[Change],
+    outline: &Outline,
+) -> Result<Vec<u64>, AllocError>
+    requires { Outlines outline.now changes.now }
     ensures { IfOk result (λ ids. ids.items ≡ live_ids changes.now) }
 {
     let mut ids = Vec::new(alloc);
     for change in changes {
-        if let Some(id) = live_id(changes, change) {
+        if let Some(id) = live_id(outline, change) {
             ids.push(id)?;
         }
     }
@@ -236,12 +240,20 @@ pub(crate) fn live_ids(alloc: Global, changes: &[Change]) -> Result<Vec<u64>, Al
 }
 
 /// The number of the record that the change made, if it is live.
-fn live_id(changes: &[Change], change: &Change) -> Option<u64>
-    ensures { option_to_list result ≡ ids_of changes.now (opens (change.now ∷ [])) }
+fn live_id(outline: &Outline, change: &Change) -> Option<u64>
+    ensures { (ledger : List Change) → Outlines outline.now ledger → option_to_list result ≡ ids_of ledger (opens (change.now ∷ [])) }
 {
     match change {
-        Change::Open(item) if !is_done(changes, item.id) => Some(item.id),
-        _ => None,
+        Change::Open(item) => {
+            if outline.closed.contains(&item.id) {
+                None
+            } else {
+                Some(item.id)
+            }
+        }
+        Change::Done(_) => None,
+        Change::Settled { .. } => None,
+        Change::Floor { .. } => None,
     }
 }
 

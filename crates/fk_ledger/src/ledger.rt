@@ -1,4 +1,4 @@
-ghost use Rattle.std.specs.Prelude.{◌≡◌, ◌↔◌, ℕ, ◌+◌, ◌==◌, ◌<◌, ◌≤◌, List, [], ◌∷◌, true, false, None, is_ok, length, IfErr, IfOk, IsErrOf, OnErr, OnOk};
+ghost use Rattle.std.specs.Prelude.{◌≡◌, ◌↔◌, ℕ, ◌+◌, ◌==◌, ◌<◌, ◌≤◌, List, [], ◌∷◌, true, false, None, Some, is_ok, length, IfErr, IfOk, IfSome, IsErrOf, OnErr, OnOk};
 ghost use Rattle.std.specs.List.{find, Contains};
 ghost use Rattle.std.specs.List.Sorted.{IsPermutation};
 ghost use Rattle.std.specs.Option.{option_copied};
@@ -7,18 +7,19 @@ ghost use Rattle.fk_host.specs.Count.{HasCauseBy};
 ghost use Rattle.fk_host.specs.Disk.{IfTold, LeavesAreas, LeavesHost};
 ghost use Rattle.fk_trace.specs.declared.change.Change.{Change};
 ghost use Rattle.fk_trace.specs.declared.change.Change.TheVariants.{Open, Done};
-ghost use Rattle.fk_trace.specs.Ledger.{after, live, is_seen, floor_of, next_id, MayMake, IsLedger};
-ghost use Rattle.fk_trace.specs.Decision.{making};
+ghost use Rattle.fk_trace.specs.Ledger.{after, live, AreNoFloors, is_seen, floor_of, next_id, MayMake, IsLedger};
 ghost use Rattle.fk_journal.specs.Entries.{area_bytes};
 ghost use Rattle.fk_journal.specs.Keeps.{selected, StandsOn, IsOpening, LeavesOthers, is_disk_fault};
-ghost use Rattle.fk_ledger.specs.Book.{room_of, live_ids, is_disk_record_fault};
+ghost use Rattle.fk_ledger.specs.Book.{making_record, calls_of, live_ids, is_disk_record_fault};
 ghost use Rattle.fk_ledger.specs.Holds.{HoldsLedger, IsLedgerDamagedAt, KeepsLedger};
 ghost use Rattle.fk_ledger.specs.Payloads.{greatest_stamp, record_bytes};
 ghost use Rattle.fk_ledger.specs.Stretch.{StretchOf, IsLedgerOpening};
 
 use crate::changes::{
-    changes_of, floor_of, is_seen, live_ids, live_record, next_id, owed_of, spend_all,
+    changes_of, floor_of, live_ids, live_record, outlined_changes_of, owed_of, spend_all,
 };
+use crate::index::{Index, add, holds, widen};
+use crate::outline::Outline;
 use crate::writing::{record_len, write_record};
 use crate::{LedgerErr, Owed, RecordFault};
 use fk_base::{Digest, Failed, NoMemory};
@@ -38,10 +39,13 @@ pub struct Ledger {
     journal: Journal,
     // with room for a Done of each live record
     changes: Vec<Change>,
+    // their digests, with room for one more where a record is reserved
+    index: Index,
     live: usize,
     next: u64,
     floor: u64,
     limit: u32,
+    keep: u32,
     // the payload of a record as it is written: cleared before each
     payload: Vec<u8>,
 }
@@ -61,16 +65,17 @@ impl Model for Ledger {
 
 impl Ledger {
     /// Syncs Head and the area that it selects and reads the ledger that it holds, and hands out one `Owed` for each live record, by rising
-    /// number. The journal may use `room` bytes, and `live` records may be live at once.
+    /// number. The journal may use `room` bytes, `live` records may be live at once, and a digest is kept for `keep` seconds at least.
     pub fn open<D: Disk>(
         alloc: Global,
         disk: &mut D,
         room: u64,
         live: u32,
+        keep: u32,
     ) -> Result<(Self, Vec<Owed>), LedgerErr>
         ensures held { IfOk result (λ r. IfTold (D.told disk.old) (D.told disk.new) (λ before after. HoldsLedger before.areas r.0.changes)) }
         ensures owed { IfOk result (λ r. r.1.items ≡ live_ids r.0.changes) }
-        ensures fresh { IfOk result (λ r. (r.0.room ≡ room) × (r.0.limit ≡ live) × (r.0.is_spent ≡ false)) }
+        ensures fresh { IfOk result (λ r. (r.0.room ≡ room) × (r.0.limit ≡ live) × (r.0.keep ≡ keep) × (r.0.is_spent ≡ false)) }
         ensures keeps { IfOk result (λ r. KeepsLedger r.0.changes (D.told disk.new) (D.may_leave disk.new)) }
         ensures stands { IfOk result (λ r. StandsOn r.0.area (D.told disk.new)) }
         // A short area is made the two bytes of an empty journal.
@@ -88,19 +93,27 @@ impl Ledger {
         ensures cause { HasCauseBy is_disk_fault (D.faults disk.old) (D.faults disk.new) result }
     {
         let (journal, entries) = Journal::open(alloc, disk, room)?;
-        let mut changes = changes_of(alloc, &entries)?;
-        let ids = live_ids(alloc, &changes)?;
-        let next = next_id(&changes);
+        let (mut changes, outline) = outlined_changes_of(alloc, &entries)?;
+        let ids = live_ids(alloc, &changes, &outline)?;
+        let Outline {
+            next,
+            above: _,
+            digests: index,
+            opened: _opened,
+            closed: _closed,
+        } = outline;
         let floor = floor_of(&changes);
         changes.reserve(ids.len())?;
         let owed = owed_of(alloc, &ids)?;
         let ledger = Ledger {
             journal,
             changes,
+            index,
             live: ids.len(),
             next,
             floor,
             limit: live,
+            keep,
             payload: Vec::new(alloc),
         };
         Ok((ledger, owed))
@@ -124,7 +137,7 @@ impl Ledger {
     pub fn seen(&self, digest: &Digest) -> bool
         ensures { result ≡ is_seen digest.now.0 self.now.changes }
     {
-        is_seen(&self.changes, digest)
+        holds(&self.index, digest)
     }
 
     /// The number of the next record.
@@ -174,10 +187,11 @@ impl Ledger {
         self.payload.reserve(len)?;
         self.journal.reserve(len)?;
         self.changes.reserve(self.live + 2)?;
+        widen(&mut self.index, 1)?;
         Ok(())
     }
 
-    /// Records a granted datagram on the disk, by four calls. What is owed for it is its close.
+    /// Records a granted datagram on the disk, where there is room for it. What is owed for it is its close. No memory is taken.
     pub fn record<D: Disk>(&mut self, disk: &mut D, item: OpenRecord) -> Result<Owed, RecordFault>
         requires unspent { self.old.is_spent ≡ false }
         requires next { MayMake self.old.changes (Open item) }
@@ -186,17 +200,21 @@ impl Ledger {
         requires reserved { length (record_bytes item) ≤ self.old.reserved }
         requires keeps { KeepsLedger self.old.changes (D.told disk.old) (D.may_leave disk.old) }
         requires stands { StandsOn self.old.area (D.told disk.old) }
-        ensures ok { OnOk result (self.new ≡ record self.old { changes = after self.old.changes (Open item ∷ []); reserved = self.new.reserved }) }
-        ensures owed { IfOk result (λ owed. owed ≡ item.id) }
-        ensures full { IsErrOf result RecordFault.Full ↔ (making (room_of self.old) self.old.changes (Open item) ≡ None) }
+        ensures full { IsErrOf result RecordFault.Full ↔ (making_record self.old item ≡ None) }
         ensures nothing { IsErrOf result RecordFault.Full → (self.new ≡ self.old) × (disk.new ≡ disk.old) }
-        ensures spent { IsErrOf result RecordFault.Disk → self.new ≡ record self.old { is_spent = true } }
+        ensures ok { IfSome (making_record self.old item) (λ made. OnOk result
+            (self.new ≡ record self.old { changes = after self.old.changes made; area = self.new.area; reserved = self.new.reserved })) }
+        ensures owed { IfOk result (λ owed. owed ≡ item.id) }
+        ensures spent { IsErrOf result RecordFault.Disk → self.new ≡ record self.old { area = self.new.area; is_spent = true } }
         ensures keeps { OnOk result (KeepsLedger self.new.changes (D.told disk.new) (D.may_leave disk.new)) }
         ensures stands { OnOk result (StandsOn self.new.area (D.told disk.new)) }
-        // A crash at any moment of the call leaves the ledger from before, with this record or without.
-        ensures moments { StretchOf D.Disk disk.old disk.new self.old.changes (Open item ∷ []) (is_ok result) }
-        ensures others { IfTold (D.told disk.old) (D.told disk.new) (LeavesOthers (D.may_leave disk.old) (D.may_leave disk.new)) }
-        ensures calls { OnOk result (IfTold (D.told disk.old) (D.told disk.new) (λ before after. after.moments ≡ before.moments + 4)) }
+        // A crash at any moment of the call leaves the ledger from before with none, the first or all of what is made.
+        ensures moments { IfSome (making_record self.old item) (λ made. StretchOf D.Disk disk.old disk.new self.old.changes made (is_ok result)) }
+        // Unless the ledger begins anew, the areas on which it does not stand are left.
+        ensures others { IfSome (making_record self.old item) (λ made. AreNoFloors made
+            → IfTold (D.told disk.old) (D.told disk.new) (LeavesOthers (D.may_leave disk.old) (D.may_leave disk.new))) }
+        ensures calls { IfSome (making_record self.old item) (λ made. OnOk result (IfTold (D.told disk.old) (D.told disk.new) (λ before after.
+            after.moments ≡ before.moments + calls_of self.old.changes made))) }
         ensures host { LeavesHost D.told D.above disk.old disk.new }
         ensures cause { HasCauseBy is_disk_record_fault (D.faults disk.old) (D.faults disk.new) result }
     {
@@ -208,7 +226,9 @@ impl Ledger {
             Ok(()) => {
                 let owed = Owed::new(item.id);
                 self.next = item.id + 1;
-                self.changes.push_reserved(Change::Open(item));
+                let change = Change::Open(item);
+                add(&mut self.index, &change);
+                self.changes.push_reserved(change);
                 self.live += 1;
                 Ok(owed)
             }
@@ -262,7 +282,8 @@ impl Ledger {
         requires words { AreCommandWords item.now.close }
         requires next { MayMake self.now.changes (Open item.now) }
         requires follow { IsLedger self.now.changes }
-        ensures { (result ≡ false) ↔ (making (room_of self.now) self.now.changes (Open item.now) ≡ None) }
+        ensures { (result ≡ false → making_record self.now item.now ≡ None)
+            × (result ≡ true → making_record self.now item.now ≡ Some (Open item.now ∷ [])) }
     {
         let live = self.live as u64;
         live < u64::from(self.limit)

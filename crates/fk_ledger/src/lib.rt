@@ -9,8 +9,10 @@
 
 mod changes;
 mod fault;
+mod index;
 mod laws;
 mod ledger;
+mod outline;
 mod owed;
 mod reading;
 mod writing;

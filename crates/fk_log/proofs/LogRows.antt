@@ -49,7 +49,7 @@ rules = record {
   misshapen = λ datagram. None;
   digest = λ datagram. datagram;
   admit = λ moment from datagram. Granted permit;
-  room = record { limit = 10; fits = λ ledger change. true };
+  room = record { limit = 10; keep = 86400; fits = λ ledger. true };
 }
 
 abbrev datagram : List ℕ

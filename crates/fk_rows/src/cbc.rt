@@ -1,5 +1,5 @@
 //! The calls of fk_cbc: the salted form of `openssl enc`.
-ghost use Rattle.std.specs.Prelude.{◌≡◌, ◌<◌};
+ghost use Rattle.std.specs.Prelude.{◌≡◌, ◌+◌, ◌/◌, ◌<◌, length, OnOk};
 
 use crate::reading::bytes;
 use fk_base::{Bytes, Steps};
@@ -35,6 +35,14 @@ pub(crate) fn call(
                 Err(fault) => answer.name(&fault)?,
             }
         }
+        b"zeros_back" => {
+            let key = arguments.text()?;
+            match zeros_come_back::<Brand>(alloc, key, bytes(arguments)?, Blank::new(1)) {
+                Ok(true) => answer.word(b"same")?,
+                Ok(false) => answer.word(b"other")?,
+                Err(fault) => answer.name(&fault)?,
+            }
+        }
         _ => return Ok(false),
     }
     Ok(true)
@@ -52,4 +60,35 @@ fn opened<L: Ledger>(
 {
     let mut steps: Steps<L> = Steps::new(blank);
     open(alloc, key, sealed, &mut steps)
+}
+
+fn zeros_come_back<L: Ledger>(
+    alloc: Global,
+    key: &[u8],
+    salt: [u8; 8],
+    blank: Blank,
+) -> Result<bool, OpenFault>
+    requires name { blank.name ≡ L.name }
+    requires parts { blank.parts ≡ L.parts }
+    requires some { 0 < L.parts }
+{
+    let zeros = vec![in alloc; 0; 1_048_576]?;
+    let mut steps: Steps<L> = Steps::new(blank);
+    comes_back(alloc, key, salt, &zeros, &mut steps)
+}
+
+/// Seals a text and opens what came of it: whether the text came back. One block more is opened than the text fills, so 65537 where the
+/// text has 1048576 bytes.
+fn comes_back<L: Ledger>(
+    alloc: Global,
+    key: &[u8],
+    salt: [u8; 8],
+    plain: &[u8],
+    steps: &mut Steps<L>,
+) -> Result<bool, OpenFault>
+    ensures { OnOk result (steps.new ≡ steps.old + (length plain.now / 16 + 1)) }
+{
+    let sealed = seal(alloc, key, salt, plain)?;
+    let opened = open(alloc, key, sealed.as_slice(), steps)?;
+    Ok(opened.as_slice() == plain)
 }

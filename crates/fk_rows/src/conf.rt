@@ -39,6 +39,8 @@ fn call_read_conf(arguments: &mut Arguments<'_>, answer: &mut Answer) -> Result<
             answer.number(u64::from(conf.live))?;
             answer.word(b"room")?;
             answer.number(conf.room)?;
+            answer.word(b"keep")?;
+            answer.number(u64::from(conf.keep))?;
         }
         Err(err) => put_err(err, answer)?,
     }

@@ -51,7 +51,7 @@ rules = record {
   misshapen = λ datagram. None;
   digest = λ datagram. datagram;
   admit = λ moment from datagram. Granted (record { stanza = 1; stamp = moment; seconds = 30; ip = source; pair = pair; opening = open_words; closing = close_words });
-  room = record { limit = 4; fits = λ ledger change. true };
+  room = record { limit = 4; keep = 86400; fits = λ ledger. true };
 }
 
 -- the record of this number, made at this moment

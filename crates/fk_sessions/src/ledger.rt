@@ -19,6 +19,9 @@ use std::alloc::Global;
 /// The greatest stamp that a record may have.
 const GREATEST_STAMP: u64 = 1_000_031_535_999;
 
+/// For how many seconds digests are kept, where nothing is said of it.
+const KEEP: u32 = 86_400;
+
 /// What the opening of a ledger has found.
 #[derive(Clone, Copy, PartialEq, Eq)]
 pub enum Found {
@@ -45,7 +48,7 @@ pub fn found_on(
     room: u64,
     live: u32,
 ) -> Result<Found, NoMemory> {
-    match Ledger::open(alloc, host, room, live) {
+    match Ledger::open(alloc, host, room, live, KEEP) {
         Ok((ledger, owed)) => {
             let found = Found::Records(ledger.next_id().saturating_sub(1), ledger.live());
             ledger.park(owed);
@@ -180,7 +183,7 @@ fn recorded(
     live: u32,
     item: OpenRecord,
 ) -> Result<&'static str, Fault> {
-    match Ledger::open(alloc, host, room, live) {
+    match Ledger::open(alloc, host, room, live, KEEP) {
         Ok((ledger, owed)) => {
             let mut ledger = ledger;
             let mut owed = owed;

@@ -1,6 +1,7 @@
 pub mod Lists
 pub mod Running
 pub mod Ledgers
+pub mod RiseLaws
 pub mod Splits
 pub mod Made
 pub mod Grants

@@ -1,6 +1,6 @@
 -- What a turn's datagram is answered: nothing where there is none, a refusal, or a record whose open is started. What is
 -- granted is an argument, so that one definition serves every stage of the rules.
-use Rattle.std.specs.Prelude.{◌≡◌, ℕ, Bool, ◌+◌, ◌≤◌, ◌&&◌, nat_lt, List, [], ◌∷◌, length, Option, Some, None, if◌then◌else◌}
+use Rattle.std.specs.Prelude.{◌≡◌, ℕ, max, Bool, ◌+◌, ◌-◌, ◌≤◌, ◌&&◌, nat_lt, List, [], ◌∷◌, length, Option, Some, None, if◌then◌else◌}
 use Rattle.fk_base.specs.declared.address.Ip4.{Ip4}
 use Rattle.fk_base.specs.declared.pair.Pair.{Pair}
 use Rattle.fk_trace.specs.declared.change.OpenRecord.{OpenRecord}
@@ -8,7 +8,7 @@ use Rattle.fk_trace.specs.declared.change.Change.{Change}
 use Rattle.fk_trace.specs.declared.change.Change.TheVariants.{Open as OpenChange}
 use Rattle.fk_trace.specs.declared.refusal.LogWhy.{LogWhy}
 use Rattle.fk_trace.specs.declared.refusal.LogWhy.TheVariants.{Replay, Stale, Full}
-use Rattle.fk_trace.specs.Ledger.{live, is_seen, IsSeen, floor_of, next_id}
+use Rattle.fk_trace.specs.Ledger.{live, is_seen, IsSeen, floor_of, next_id, rise, after_one, after}
 
 -- what a turn was taken for: nothing but the time, or a datagram with its source
 pub data Input : Type 0 where
@@ -39,8 +39,10 @@ pub data Verdict : Type 0 where
 pub record Room : Type 0 where
   -- how many records may be live
   pub limit : ℕ
-  -- the journal of the ledger takes one more change, and for each record that is then live the Done that it is owed
-  pub fits : List Change → Change → Bool
+  -- for how many seconds a digest is kept at least
+  pub keep : ℕ
+  -- the journal has room for this ledger, and for the Done that each live record of it is owed
+  pub fits : List Change → Bool
 
 -- the rules of a run
 pub record Rules : Type 0 where
@@ -70,9 +72,21 @@ abbrev pub has_place : Room → List Change → Change → Bool
 has_place room ledger (OpenChange item) = nat_lt (length (live ledger)) room.limit && nat_lt (next_id ledger) 9223372036854775808
 has_place room ledger _ = nat_lt (next_id ledger) 9223372036854775808
 
--- what is made so that the ledger has this change, and nothing where there is no room
-abbrev pub making : Room → List Change → Change → Option (List Change)
-making room ledger change = if has_place room ledger change && room.fits ledger change then Some (change ∷ []) else None
+-- the floor with which a ledger begins anew at a moment: the moment less the seconds for which a digest is kept, but it never falls
+abbrev pub floor_at : ℕ → ℕ → List Change → ℕ
+floor_at keep moment ledger = max (floor_of ledger) (moment - keep)
+
+-- the Floor with which it then begins
+abbrev pub rise_at : Room → ℕ → List Change → Change
+rise_at room moment ledger = rise (floor_at room.keep moment ledger) ledger
+
+-- What is made at a moment so that the ledger has this change, which has its place: the change alone where the ledger then fits, and
+-- nothing where it doesn't.
+abbrev pub making_placed : Room → ℕ → List Change → Change → Option (List Change)
+making_placed room moment ledger change = if room.fits (after ledger (change ∷ [])) then Some (change ∷ []) else None
+
+abbrev pub making : Room → ℕ → List Change → Change → Option (List Change)
+making room moment ledger change = if has_place room ledger change then making_placed room moment ledger change else None
 
 pub data Answer : Type 0 where
   -- there was no datagram
@@ -90,7 +104,7 @@ answer_granted rules ledger moment datagram permit =
     if nat_lt permit.stamp (floor_of ledger)
     then Refuses Stale
     else answer_made (record_of rules ledger moment datagram permit) permit
-    (making rules.room ledger (OpenChange (record_of rules ledger moment datagram permit)))
+    (making rules.room moment ledger (OpenChange (record_of rules ledger moment datagram permit)))
 
 abbrev pub answer_by : Rules → List Change → ℕ → List ℕ → Verdict → Answer
 answer_by rules ledger moment datagram (Granted permit) = answer_granted rules ledger moment datagram permit
@@ -132,5 +146,5 @@ pub record IsGranted (rules : Rules) (ledger : List Change) (turn : FeedTurn) (i
   pub granted : rules.admit turn.moment source datagram ≡ Granted permit
   pub current : floor_of ledger ≤ permit.stamp
   pub recorded : item ≡ record_of rules ledger turn.moment datagram permit
-  pub room : making rules.room ledger (OpenChange item) ≡ Some changes
+  pub room : making rules.room turn.moment ledger (OpenChange item) ≡ Some changes
   pub opening : words ≡ permit.opening

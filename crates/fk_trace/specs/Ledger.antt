@@ -1,8 +1,8 @@
 -- The ledger: a list of changes, the first of them first. A datagram that was granted is recorded by an Open; a Done says that the record
 -- of that number is closed for good. A journal that would fill up begins anew with a Floor. Behind it stand the live records, and a
 -- Settled for each other one whose stamp isn't below the floor. A packet below it is refused, so that what was left out is not missed.
-use Rattle.std.specs.Prelude.{◌≡◌, ◌⊎◌, ℕ, max, Bool, not, ◌+◌, ◌<◌, ◌≤◌, ◌==◌, nat_eq, nat_le, List, [], ◌∷◌, ◌++◌, map, Option, Some, None, if◌then◌else◌}
-use Rattle.std.specs.List.{filter, filter_map, list_any, All, Contains}
+use Rattle.std.specs.Prelude.{◌≡◌, ◌⊎◌, ℕ, max, Bool, true, false, not, ◌+◌, ◌<◌, ◌≤◌, ◌==◌, nat_eq, nat_le, List, [], ◌∷◌, ◌++◌, map, Option, Some, None, if◌then◌else◌}
+use Rattle.std.specs.List.{filter, filter_map, list_any, All, AllByRecursion, Contains}
 use Rattle.std.specs.Cmp.Lexicographic.{pointwise}
 use Rattle.fk_trace.specs.declared.change.OpenRecord.{OpenRecord}
 use Rattle.fk_trace.specs.declared.change.Change.{Change}
@@ -119,6 +119,30 @@ rise floor ledger = Floor floor (next_id ledger)
 
 abbrev pub compacted : ℕ → List Change → List Change
 compacted floor ledger = after_one ledger (rise floor ledger)
+
+-- the change begins the ledger anew
+abbrev pub is_floor : Change → Bool
+is_floor (Open item) = false
+is_floor (Done id) = false
+is_floor (Settled id stamp digest) = false
+is_floor (Floor floor next) = true
+
+-- none of these changes begins the ledger anew
+abbrev pub AreNoFloors : List Change → Type 0
+AreNoFloors changes = AllByRecursion (λ change. is_floor change ≡ false) changes
+
+-- the last of the changes is a Floor
+abbrev pub ends_with_floor : List Change → Bool
+ends_with_floor [] = false
+ends_with_floor (change ∷ []) = is_floor change
+ends_with_floor (change ∷ other ∷ changes) = ends_with_floor (other ∷ changes)
+
+-- The changes of one call: one that is no Floor, or a Floor and behind it the one for which it makes room.
+abbrev pub AreOneCall : List Change → Type 0
+AreOneCall [] = ⊥
+AreOneCall (change ∷ []) = is_floor change ≡ false
+AreOneCall (change ∷ other ∷ []) = (is_floor change ≡ true) × (is_floor other ≡ false)
+AreOneCall (change ∷ other ∷ more ∷ changes) = ⊥
 
 -- What two ledgers have to agree in so that nothing above them can tell them apart.
 pub record State : Type 0 where

@@ -19,7 +19,7 @@ use Rattle.fk_trial.proofs.Serving.{told-hosts}
 -- what the opening of a ledger over a new host says
 pub record Opened (conf : Conf) (ledger : Book) (old new : HostState) : Type 0 where
   pub held : IfTold (told_of old) (told_of new) (λ before later. HoldsLedger before.areas ledger.changes)
-  pub fresh : (ledger.room ≡ conf.room) × (ledger.limit ≡ conf.live) × (ledger.is_spent ≡ false)
+  pub fresh : (ledger.room ≡ conf.room) × (ledger.limit ≡ conf.live) × (ledger.keep ≡ conf.keep) × (ledger.is_spent ≡ false)
   pub keeps : KeepsLedger ledger.changes (told_of new) (leaves_of new)
   pub area : StandsOnArea ledger.area (view new)
   pub trace : IfTold (told_of old) (told_of new) (λ before later. later.trace ≡ before.trace)
@@ -47,7 +47,8 @@ opened conf ledger daemon old new fresh opens one is tied settled told replay =
           changes = ap (λ (book : Book). book.changes) is.0 ∙ none;
           limit = ap (λ (book : Book). book.limit) is.0 ∙ opens.fresh.1;
           room = ap (λ (book : Book). book.room) is.0 ∙ opens.fresh.0;
-          unspent = ap (λ (book : Book). book.is_spent) is.0 ∙ opens.fresh.2;
+          keep = ap (λ (book : Book). book.keep) is.0 ∙ opens.fresh.2;
+          unspent = ap (λ (book : Book). book.is_spent) is.0 ∙ opens.fresh.3;
           area = subst (λ (area : Area). StandsOnArea area (view new)) (sym (ap (λ (book : Book). book.area) is.0)) opens.area;
           stands = record {
             tied = subst (λ (changes : List Change). IsTied daemon.crew (above_of new) (entry changes)) none (tied (above_of new));

@@ -36,6 +36,7 @@ rests-output conf at place out rests = record {
     changes = rests.stands.changes;
     limit = rests.stands.limit;
     room = rests.stands.room;
+    keep = rests.stands.keep;
     unspent = rests.stands.unspent;
     area = rests.stands.area;
     stands = rests.stands.stands;

@@ -232,7 +232,7 @@ fn open_daemon(alloc: Global, conf: &Conf, host: &mut TrialHost) -> Result<Daemo
     ensures { IfOk result (λ daemon. OpensDaemon conf.now daemon host.new) }
 {
     no_area_holds_two_ledgers();
-    let Ok((ledger, owed)) = Ledger::open(alloc, host, conf.room, conf.live) else {
+    let Ok((ledger, owed)) = Ledger::open(alloc, host, conf.room, conf.live, conf.keep) else {
         return Err(NoMemory);
     };
     if host.is_short() {

@@ -9,13 +9,14 @@ use Rattle.fk_trace.specs.declared.change.OpenRecord.{OpenRecord}
 use Rattle.fk_trace.specs.declared.change.Change.{Change}
 use Rattle.fk_trace.specs.declared.change.Change.TheVariants.{Open as OpenChange, Done}
 use Rattle.fk_trace.specs.Trace.{Event, Item, Child, running, still_running, begun_by, is_turn, is_close_attempt_of, close_tried, past_after, close_attempted}
-use Rattle.fk_trace.specs.Ledger.{Key, live, seen, after, opens, dones, IsLedger}
+use Rattle.fk_trace.specs.Ledger.{Key, live, seen, after, opens, dones, ends_with_floor, IsLedger}
+use Rattle.fk_ledger.specs.Book.{calls_of}
 use Rattle.fk_trace.specs.Decision.{FeedTurn, Answer, answer, recorded_by}
 use Rattle.fk_trace.specs.Settled.{settlements}
 use Rattle.fk_trace.specs.Attempts.{IsPollOf}
 use Rattle.fk_trace.specs.Idle.{ends_after, is_idle}
 use Rattle.fk_trace.proofs.Ledgers.{opens-append, seen-push_done, after-append}
-use Rattle.fk_trace.proofs.Grants.{dones-answer}
+use Rattle.fk_trace.proofs.Grants.{answer-for, dones-answer}
 use Rattle.fk_trace.proofs.Settled.{past_after-append}
 use Rattle.fk_trace.proofs.Lists.{Contains-head, Contains-tail, Contains-cases, Contains-filter, Contains-unmap}
 use Rattle.fk_run.specs.Left.{is_attempt}
@@ -45,6 +46,7 @@ use Rattle.fk_turn.specs.Serving.{calls_for, OwesItsLive, ServesWhole, ServesTur
 use Rattle.fk_turn.specs.Parts.{beginning, BeginsTurn, settlement, SettlesWhole, FailsToSettle, answering, Answers, AnswersWhole, FailsToRecord, WantsToAnswer, closing_part, AttemptsCloses, Closes, Part, joined, reached, ServesPart}
 use Rattle.fk_turn.proofs.Items.{Tries, Polls, polls-no_turns, polls-close_none, opened-tries, opened-close_none, polled-polls, all-joined, tried-after, tried-none, tries-no_turns, ends_after-append, polls-others, tries-attempts}
 use Rattle.fk_turn.proofs.Places.{place-same, serves-join, next-stands, scene_next}
+use Rattle.fk_turn.proofs.Making.{calls_of-append, ends-joined, ends-dones, recorded-ends, for-one}
 use Rattle.fk_turn.proofs.Calls.{IsFirst, first-brought, first-then}
 use Rattle.fk_turn.proofs.Lines.{taken_turn, lines-of, no_refusal-told, dones-part, opens-settled}
 use Rattle.fk_turn.proofs.Finishing.{finishes, passing, next-joined, next-tries, turn-tries}
@@ -54,10 +56,10 @@ use Rattle.fk_log.proofs.Logged.{Logs-append}
 use Rattle.fk_turn.proofs.Wholes.{GoesOn, goes-on, settled-ledger, settled_place, given, Begins, whole-turn, closes-place, cut-before, cut-among, planned-turn, settles-polled}
 
 -- calls over a ledger that the calls before them have left as it was
-pub adds-onto : (xs ys : List Item) (ledger b : List Change) (whole : Bool) (u v w : View) → (b ≡ []) ⊎ AllByRecursion (λ item. is_attempt item.event ≡ false) xs
-    → Adds xs ledger [] true u v → v.faults ≡ u.faults → Adds ys ledger b whole v w → Adds (xs ++ ys) ledger b whole u w
-adds-onto xs ys ledger b whole u v w order first same second =
-    adds-append xs ys ledger [] b (record { attempts = order; others = inl refl }) whole u v w first same second
+pub adds-onto : (xs ys : List Item) (ledger b failing : List Change) (u v w : View) → (b ++ failing ≡ []) ⊎ AllByRecursion (λ item. is_attempt item.event ≡ false) xs
+    → Adds xs ledger [] [] u v → v.faults ≡ u.faults → Adds ys ledger b failing v w → Adds (xs ++ ys) ledger b failing u w
+adds-onto xs ys ledger b failing u v w order first same second =
+    adds-append xs ys ledger [] b failing (record { attempts = order; others = inl refl }) u v w first same second
 
 -- what is settled stays seen
 seen-settled : (ledger : List Change) (ids : List ℕ) → seen (after ledger (map Done ids)) ≡ seen ledger
@@ -160,7 +162,7 @@ module _ (policy : Policy) (place : Place) (turn : FeedTurn) (s0 s1 : Scene) (b 
 
   -- the turn began with the first call
   first1 : IsFirst b.start s0.host s1.host
-  first1 = first-brought b.start b.polled (calls_for (b.start ∷ b.polled) []) s0.host s1.host (omega arith) b.serves.adds.trace b.calls
+  first1 = first-brought b.start b.polled (calls_for (b.start ∷ b.polled) place.ledger []) s0.host s1.host (omega arith) b.serves.adds.trace b.calls
 
   polls : AllByRecursion Polls b.polled
   polls = polled-polls b.polls.order b.polled b.polls.answered
@@ -206,12 +208,14 @@ module _ (policy : Policy) (place : Place) (turn : FeedTurn) (s0 s1 : Scene) (b 
         cut = cut-before (rules_by policy) place turn b.start b.polled ids begins goes (map Done f.made) unmade all;
         meant = cut-before (rules_by policy) place turn b.start b.polled ids begins goes (map Done f.made ++ Done f.failed ∷ []) (map Done f.later ++ recorded_by answer_given)
             (append_assoc (map Done f.made) (Done f.failed ∷ []) (map Done f.later ++ recorded_by answer_given) ∙ all);
-        next = Done f.failed;
+        whole = ends-dones f.made;
+        failing = Done f.failed ∷ [];
+        one = refl;
         later = map Done f.later ++ recorded_by answer_given;
-        planned = all ∙ sym (planned-turn (rules_by policy) place turn b.start b.polled ids begins [] taken tt refl (ap (λ (xs : List Item). b.start ∷ xs) (sym (append-nil b.polled))));
+        planned = append_assoc (map Done f.made) (Done f.failed ∷ []) (map Done f.later ++ recorded_by answer_given) ∙ all ∙ sym (planned-turn (rules_by policy) place turn b.start b.polled ids begins [] taken tt refl (ap (λ (xs : List Item). b.start ∷ xs) (sym (append-nil b.polled))));
         numbered = begun-stands.stands.tied.stands.orderly.numbered;
-        adds = subst (λ (xs : List Item). Adds xs place.ledger (map Done f.made ++ Done f.failed ∷ []) false s0.host s2.host) (append-nil (b.start ∷ b.polled))
-            (adds-onto (b.start ∷ b.polled) [] place.ledger (map Done f.made ++ Done f.failed ∷ []) false s0.host s1.host s2.host (inr others) b.serves.adds b.serves.disk f.adds);
+        adds = subst (λ (xs : List Item). Adds xs place.ledger (map Done f.made) (Done f.failed ∷ []) s0.host s2.host) (append-nil (b.start ∷ b.polled))
+            (adds-onto (b.start ∷ b.polled) [] place.ledger (map Done f.made) (Done f.failed ∷ []) s0.host s1.host s2.host (inr others) b.serves.adds b.serves.disk f.adds);
         disk = f.disk ∙ ap counted b.serves.disk;
         logs = subst (λ (xs : List Line). Logs xs s0.output s2.output)
             (sym (cut-lines Untold f.made [] (map Done f.made) (sym (append-nil (map Done f.made))) refl
@@ -241,17 +245,17 @@ module _ (policy : Policy) (place : Place) (turn : FeedTurn) (s0 s1 : Scene) (b 
     plainly2 : ServesPart conf turn.moment place plain2 s0 s2
     plainly2 = subst (λ (part : Part). ServesPart conf turn.moment place part s0 s2) (part-same part2 plain2 (append-nil (b.start ∷ b.polled)) refl refl) serves2
 
-    calls2 : MakesCalls (calls_for (b.start ∷ b.polled) (map Done ids)) s0.host s2.host
-    calls2 = calls-same (calls_for (b.start ∷ b.polled) [] + calls_for [] (map Done ids)) (calls_for (b.start ∷ b.polled) (map Done ids)) s0.host s2.host (omega arith)
-        (calls-then (calls_for (b.start ∷ b.polled) []) (calls_for [] (map Done ids)) s0.host s1.host s2.host b.calls settles.calls)
+    calls2 : MakesCalls (calls_for (b.start ∷ b.polled) place.ledger (map Done ids)) s0.host s2.host
+    calls2 = calls-same (calls_for (b.start ∷ b.polled) place.ledger [] + calls_for [] place.ledger (map Done ids)) (calls_for (b.start ∷ b.polled) place.ledger (map Done ids)) s0.host s2.host (omega arith)
+        (calls-then (calls_for (b.start ∷ b.polled) place.ledger []) (calls_for [] place.ledger (map Done ids)) s0.host s1.host s2.host b.calls settles.calls)
 
     first2 : IsFirst b.start s0.host s2.host
-    first2 = first-then b.start (calls_for [] (map Done ids)) s0.host s1.host s2.host first1 settles.calls
+    first2 = first-then b.start (calls_for [] place.ledger (map Done ids)) s0.host s1.host s2.host first1 settles.calls
 
     -- the disk failed while the record was made
     pub fails-recording : (s3 : Scene) → FailsToRecord policy answer_place turn s2 s3 → FailsAtDisk policy place turn s0 s3
     fails-recording s3 f =
-        let made : recorded_by answer_given ≡ OpenChange f.item ∷ [] = ap recorded_by f.given in
+        let made : recorded_by answer_given ≡ f.making = ap recorded_by f.given in
         let taken : TakenTurn = record { turn = turn; items = b.start ∷ b.polled; changes = map Done ids } in
         let lines : turn_lines (rules_by policy) place Untold taken ≡ plain2.lines =
         cut-lines Untold ids [] (map Done ids) (sym (append-nil (map Done ids))) refl
@@ -261,15 +265,18 @@ module _ (policy : Policy) (place : Place) (turn : FeedTurn) (s0 s1 : Scene) (b 
           taken = taken;
           of_turn = refl;
           cut = cut-before (rules_by policy) place turn b.start b.polled ids begins goes (map Done ids) (recorded_by answer_given) refl;
-          meant = cut-before (rules_by policy) place turn b.start b.polled ids begins goes (map Done ids ++ OpenChange f.item ∷ []) []
-              (append-nil (map Done ids ++ OpenChange f.item ∷ []) ∙ ap (λ (cs : List Change). map Done ids ++ cs) (sym made));
-          next = OpenChange f.item;
+          meant = cut-before (rules_by policy) place turn b.start b.polled ids begins goes (map Done ids ++ f.making) []
+              (append-nil (map Done ids ++ f.making) ∙ ap (λ (cs : List Change). map Done ids ++ cs) (sym made));
+          whole = ends-dones ids;
+          failing = f.making;
+          one = for-one (rules_by policy).room turn.moment answer_place.ledger f.item f.making (answer-for (rules_by policy) answer_place.ledger turn f.item f.permit f.making f.given);
           later = [];
-          planned = ap (λ (cs : List Change). map Done ids ++ cs) (sym made)
+          planned = append-nil (map Done ids ++ f.making) ∙ ap (λ (cs : List Change). map Done ids ++ cs) (sym made)
               ∙ sym (planned-turn (rules_by policy) place turn b.start b.polled ids begins [] taken tt refl (ap (λ (xs : List Item). b.start ∷ xs) (sym (append-nil b.polled))));
           numbered = begun-stands.stands.tied.stands.orderly.numbered;
-          adds = subst (λ (xs : List Item). Adds xs place.ledger (map Done ids ++ OpenChange f.item ∷ []) false s0.host s3.host) (append-nil (b.start ∷ b.polled))
-              (adds-append (b.start ∷ b.polled) [] place.ledger (map Done ids) (OpenChange f.item ∷ []) (record { attempts = inr others; others = inr tt }) false s0.host s2.host s3.host plainly2.adds plainly2.disk f.adds);
+          adds = subst (λ (xs : List Item). Adds xs place.ledger (map Done ids) f.making s0.host s3.host) (append-nil (b.start ∷ b.polled))
+              (subst (λ (cs : List Change). Adds ((b.start ∷ b.polled) ++ []) place.ledger cs f.making s0.host s3.host) (append-nil (map Done ids))
+              (adds-append (b.start ∷ b.polled) [] place.ledger (map Done ids) [] f.making (record { attempts = inr others; others = inr tt }) s0.host s2.host s3.host plainly2.adds plainly2.disk f.adds));
           disk = f.disk ∙ ap counted plainly2.disk;
           logs = subst (λ (xs : List Line). Logs xs s0.output s3.output) (append-nil plain2.lines ∙ sym lines)
               (Logs-append plain2.lines [] s0.output s2.output s3.output plainly2.logs f.logs);
@@ -291,7 +298,9 @@ module _ (policy : Policy) (place : Place) (turn : FeedTurn) (s0 s1 : Scene) (b 
           | inr e ↦ ([], append-nil made ∙ ap (λ (cs : List Change). map Done ids ++ cs) e.0)
         ] in
         let none : dones w.changes ≡ [] = elim w.front [ inl e ↦ ap dones e.0 | inr e ↦ ap dones e.0 ∙ dones-given ] in
-        let total : length made ≡ length (map Done ids) + length w.changes = length-append (map Done ids) w.changes in
+        let total : calls_of place.ledger made ≡ calls_of place.ledger (map Done ids) + calls_of answer_place.ledger w.changes = calls_of-append place.ledger (map Done ids) w.changes in
+        let few_ends : ends_with_floor w.changes ≡ false =
+        elim w.front [ inl e ↦ ap ends_with_floor e.0 | inr e ↦ ap ends_with_floor e.0 ∙ recorded-ends (rules_by policy) answer_place.ledger turn answer_given refl ] in
         let lines : List Line = input_lines turn.moment turn.input Untold w.changes answer_given in
         let worth : IsWorthMemory policy place (record { turn = turn; items = b.start ∷ b.polled; changes = made }) = record {
           datagram = record {
@@ -311,24 +320,25 @@ module _ (policy : Policy) (place : Place) (turn : FeedTurn) (s0 s1 : Scene) (b 
             | inl e ↦ inl (record {
               cause = worth;
               unrecorded = ap (λ (cs : List Change). opens (map Done ids ++ cs)) e.0 ∙ ap opens (append-nil (map Done ids)) ∙ opens-settled ids;
-              calls = calls-same (calls_for (b.start ∷ b.polled) (map Done ids) + 0) (calls_for (b.start ∷ b.polled) made + 0) s0.host s3.host (let few = ap length e.0 in omega (arith, total, few))
-                  (calls-then (calls_for (b.start ∷ b.polled) (map Done ids)) 0 s0.host s2.host s3.host calls2 e.1);
+              calls = calls-same (calls_for (b.start ∷ b.polled) place.ledger (map Done ids) + 0) (calls_for (b.start ∷ b.polled) place.ledger made + 0) s0.host s3.host (let few = ap (calls_of answer_place.ledger) e.0 in omega (arith, total, few))
+                  (calls-then (calls_for (b.start ∷ b.polled) place.ledger (map Done ids)) 0 s0.host s2.host s3.host calls2 e.1);
             })
             | inr e ↦ inr (record {
               cause = inl (worth, λ none. e.1 (sym (opens-append (map Done ids) w.changes ∙ ap (λ (xs : List OpenRecord). xs ++ opens w.changes) (opens-settled ids)) ∙ none));
-              calls = calls-same (calls_for (b.start ∷ b.polled) (map Done ids) + (calls_for [] w.changes + 1)) (calls_for (b.start ∷ b.polled) made + 1) s0.host s3.host (omega (arith, total))
-                  (calls-then (calls_for (b.start ∷ b.polled) (map Done ids)) (calls_for [] w.changes + 1) s0.host s2.host s3.host calls2 e.2);
+              calls = calls-same (calls_for (b.start ∷ b.polled) place.ledger (map Done ids) + (calls_for [] answer_place.ledger w.changes + 1)) (calls_for (b.start ∷ b.polled) place.ledger made + 1) s0.host s3.host (omega (arith, total))
+                  (calls-then (calls_for (b.start ∷ b.polled) place.ledger (map Done ids)) (calls_for [] answer_place.ledger w.changes + 1) s0.host s2.host s3.host calls2 e.2);
             })
           ];
+          whole = ends-joined (map Done ids) w.changes (ends-dones ids) few_ends;
           settled = ap (map Done) (dones-part ids w.changes none)
               ∙ sym (ap (λ (xs : List Item). settlements place.past (b.start ∷ xs)) (sym (append-nil b.polled)) ∙ settles-polled (rules_by policy) place turn b.start b.polled ids begins [] tt);
           begun = elim w.front [
             | inl e ↦ first-then b.start 0 s0.host s2.host s3.host first2 e.1
-            | inr e ↦ first-then b.start (calls_for [] w.changes + 1) s0.host s2.host s3.host first2 e.2
+            | inr e ↦ first-then b.start (calls_for [] answer_place.ledger w.changes + 1) s0.host s2.host s3.host first2 e.2
           ];
           numbered = begun-stands.stands.tied.stands.orderly.numbered;
-          adds = subst (λ (xs : List Item). Adds xs place.ledger made true s0.host s3.host) (append-nil (b.start ∷ b.polled))
-              (adds-append (b.start ∷ b.polled) [] place.ledger (map Done ids) w.changes (record { attempts = inr others; others = inr tt }) true s0.host s2.host s3.host plainly2.adds plainly2.disk w.adds);
+          adds = subst (λ (xs : List Item). Adds xs place.ledger made [] s0.host s3.host) (append-nil (b.start ∷ b.polled))
+              (adds-append (b.start ∷ b.polled) [] place.ledger (map Done ids) w.changes [] (record { attempts = inr others; others = inr tt }) s0.host s2.host s3.host plainly2.adds plainly2.disk w.adds);
           disk = w.disk ∙ plainly2.disk;
           told = Untold;
           may = inr (λ id. ap (λ (event : Event). is_close_attempt_of id event || close_attempted b.polled id) b.begins ∙ polls-close_none id b.polled polls);
@@ -365,11 +375,11 @@ module _ (policy : Policy) (place : Place) (turn : FeedTurn) (s0 s1 : Scene) (b 
       serves3 = serves-join conf turn.moment place plain2 (answering turn answer_given a.opened) s0 s2 s3
           (record { attempts = inr others; others = inr (tries-attempts a.opened tries) }) plainly2 a.serves
 
-      calls3 : MakesCalls (calls_for (b.start ∷ b.polled ++ a.opened) (map Done ids ++ recorded_by answer_given)) s0.host s3.host
+      calls3 : MakesCalls (calls_for (b.start ∷ b.polled ++ a.opened) place.ledger (map Done ids ++ recorded_by answer_given)) s0.host s3.host
       calls3 =
-          calls-same (calls_for (b.start ∷ b.polled) (map Done ids) + calls_for a.opened (recorded_by answer_given)) (calls_for (b.start ∷ b.polled ++ a.opened) (map Done ids ++ recorded_by answer_given)) s0.host s3.host
-          (let items = length-append b.polled a.opened in let changes = length-append (map Done ids) (recorded_by answer_given) in omega (arith, items, changes))
-          (calls-then (calls_for (b.start ∷ b.polled) (map Done ids)) (calls_for a.opened (recorded_by answer_given)) s0.host s2.host s3.host calls2 a.calls)
+          calls-same (calls_for (b.start ∷ b.polled) place.ledger (map Done ids) + calls_for a.opened answer_place.ledger (recorded_by answer_given)) (calls_for (b.start ∷ b.polled ++ a.opened) place.ledger (map Done ids ++ recorded_by answer_given)) s0.host s3.host
+          (let items = length-append b.polled a.opened in let changes = calls_of-append place.ledger (map Done ids) (recorded_by answer_given) in omega (arith, items, changes))
+          (calls-then (calls_for (b.start ∷ b.polled) place.ledger (map Done ids)) (calls_for a.opened answer_place.ledger (recorded_by answer_given)) s0.host s2.host s3.host calls2 a.calls)
 
       module _ (further : ℕ) (s4 : Scene) (done : AttemptsCloses further conf turn.moment close_place s3 s4) where
         abbrev taken : TakenTurn
@@ -396,11 +406,11 @@ module _ (policy : Policy) (place : Place) (turn : FeedTurn) (s0 s1 : Scene) (b 
             (subst (λ (at : Place). ServesPart conf turn.moment at (closing_part turn.moment done.closed) s3 s4)
             (closes-place (rules_by policy) place turn b.start b.polled ids a.opened) done.serves))
 
-        calls4 : MakesCalls (calls_for taken.items taken.changes + further) s0.host s4.host
+        calls4 : MakesCalls (calls_for taken.items place.ledger taken.changes + further) s0.host s4.host
         calls4 =
-            calls-same (calls_for (b.start ∷ b.polled ++ a.opened) taken.changes + (length done.closed + further)) (calls_for taken.items taken.changes + further) s0.host s4.host
+            calls-same (calls_for (b.start ∷ b.polled ++ a.opened) place.ledger taken.changes + (length done.closed + further)) (calls_for taken.items place.ledger taken.changes + further) s0.host s4.host
             (let items = length-append (b.polled ++ a.opened) done.closed in omega (arith, items))
-            (calls-then (calls_for (b.start ∷ b.polled ++ a.opened) taken.changes) (length done.closed + further) s0.host s3.host s4.host calls3 done.calls)
+            (calls-then (calls_for (b.start ∷ b.polled ++ a.opened) place.ledger taken.changes) (length done.closed + further) s0.host s3.host s4.host calls3 done.calls)
 
         -- all was served
         pub serves-whole : further ≡ 0 → NoneIsDue turn.moment (behind turn.moment close_place done.closed) → ServesWhole policy place turn s0 (scene_next s4)
@@ -411,7 +421,7 @@ module _ (policy : Policy) (place : Place) (turn : FeedTurn) (s0 s1 : Scene) (b 
               taken = taken;
               of_turn = refl;
               whole = whole-turn (rules_by policy) place turn b.start b.polled ids begins a.opened done.closed taken refl a.attempts (each-due done.closed attempts) refl refl;
-              calls = calls-same (calls_for taken.items taken.changes + further) (calls_for taken.items taken.changes) s0.host s4.host (omega (arith, zero)) calls4;
+              calls = calls-same (calls_for taken.items place.ledger taken.changes + further) (calls_for taken.items place.ledger taken.changes) s0.host s4.host (omega (arith, zero)) calls4;
               adds = serves4.adds;
               disk = serves4.disk;
               logs = serves4.logs;
@@ -473,13 +483,14 @@ module _ (policy : Policy) (place : Place) (turn : FeedTurn) (s0 s1 : Scene) (b 
                   (each-due (done.closed ++ rest.0) (next-joined turn.moment close_place done.closed rest.0 done.attempts rest.1));
               wants = inr (record {
                 cause = inr (close-wanted next.0 next.1);
-                calls = calls-same (calls_for taken.items taken.changes + further) (calls_for taken.items taken.changes + 1) s0.host s4.host (omega (arith, one)) calls4;
+                calls = calls-same (calls_for taken.items place.ledger taken.changes + further) (calls_for taken.items place.ledger taken.changes + 1) s0.host s4.host (omega (arith, one)) calls4;
               });
+              whole = ends-joined (map Done ids) (recorded_by answer_given) (ends-dones ids) (recorded-ends (rules_by policy) answer_place.ledger turn answer_given refl);
               settled = ap (map Done) (dones-part ids (recorded_by answer_given) (dones-given))
                   ∙ sym (ap (λ (xs : List Item). settlements place.past (b.start ∷ xs)) (append_assoc b.polled a.opened done.closed)
                   ∙ settles-polled (rules_by policy) place turn b.start b.polled ids begins (a.opened ++ done.closed) (all-joined Tries a.opened done.closed tries closed-tries));
               begun = first-then b.start (length done.closed + further) s0.host s3.host s4.host
-                  (first-then b.start (calls_for a.opened (recorded_by answer_given)) s0.host s2.host s3.host first2 a.calls) done.calls;
+                  (first-then b.start (calls_for a.opened answer_place.ledger (recorded_by answer_given)) s0.host s2.host s3.host first2 a.calls) done.calls;
               numbered = serves4.stands.stands.tied.stands.orderly.numbered;
               adds = serves4.adds;
               disk = serves4.disk;

@@ -122,7 +122,7 @@ next-more moment place (y ∷ ys) x a n = (a.0, next-more moment (behind moment 
 behind-reached : (moment : ℕ) (place : Place) (xs : List Item) → behind moment place xs ≡ reached moment place (closing_part moment xs)
 behind-reached moment place xs = place-same (behind moment place xs) (reached moment place (closing_part moment xs)) refl refl refl refl
 
-pub closes-none : (conf : Conf) (moment : ℕ) (place : Place) (at : Scene) → AtRest conf at place → Adds [] place.ledger [] true at.host at.host → AttemptsCloses 0 conf moment place at at
+pub closes-none : (conf : Conf) (moment : ℕ) (place : Place) (at : Scene) → AtRest conf at place → Adds [] place.ledger [] [] at.host at.host → AttemptsCloses 0 conf moment place at at
 closes-none conf moment place at rest adds = record { closed = []; calls = calls-none at.host; attempts = tt; serves = serves-nothing conf moment place at rest.stands adds; settled = rest.settled }
 
 -- where the closes so far have led
@@ -150,8 +150,9 @@ module _ (conf : Conf) (moment : ℕ) (place : Place) (s0 : Scene) (book : Book)
           changes = before.changes;
           limit = before.limit;
           room = before.room;
+          keep = before.keep;
           unspent = before.unspent;
-          area = area-kept book book h1 h2 refl goes.adds.others before.area;
+          area = area-kept book book h1 h2 refl goes.selects before.area;
           stands = goes.stands;
           number = before.number;
         } in

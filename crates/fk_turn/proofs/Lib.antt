@@ -1,6 +1,7 @@
 pub mod Logging
 pub mod Items
 pub mod Places
+pub mod Making
 pub mod Calls
 pub mod Lines
 pub mod Finishing

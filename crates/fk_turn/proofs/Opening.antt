@@ -1,8 +1,8 @@
 -- A datagram is refused, or recorded and opened.
-use Rattle.std.proofs.Common.{◌≡◌, ℕ, ◌+◌, ◌≤◌, Bool, true, false, cond, List, [], ◌∷◌, ◌++◌, Option, Some, None, Result, Ok, Err, inl, inr, refl, sym, ap, subst, ◌∙◌}
+use Rattle.std.proofs.Common.{◌≡◌, ℕ, ◌+◌, ◌≤◌, Bool, true, false, cond, List, [], ◌∷◌, ◌++◌, Option, Some, None, Result, Ok, Err, inl, inr, map, refl, sym, ap, subst, ◌∙◌, append-nil, arith}
 use Rattle.std.specs.Prelude.{IsErrAnd}
 use Rattle.std.proofs.lemmas.Bool.{le-ltb}
-use Rattle.std.specs.List.{cons_option}
+use Rattle.std.specs.List.{cons_option, AllByRecursion}
 use Rattle.fk_base.specs.declared.address.Ip4.{Ip4}
 use Rattle.fk_base.specs.declared.grant.Grant.{Grant}
 use Rattle.fk_base.specs.declared.purpose.Purpose.{Purpose}
@@ -14,13 +14,15 @@ use Rattle.fk_trace.specs.declared.refusal.LogWhy.{LogWhy}
 use Rattle.fk_trace.specs.declared.refusal.LogWhy.TheVariants.{Replay, Stale, Full}
 use Rattle.fk_trace.specs.Trace.{Event, Item, attempt_of}
 use Rattle.fk_trace.specs.Trace.Event.{Turn, Began, StartFailed, Ended, Runs, PollFailed}
-use Rattle.fk_trace.specs.Ledger.{after, is_seen, floor_of, IsSeen, MayMake}
+use Rattle.fk_trace.specs.Ledger.{opens, AreNoFloors, after, is_seen, floor_of, IsSeen, MayMake}
 use Rattle.fk_trace.specs.Decision.{FeedTurn, Permit, Rules, Verdict, Answer, making, answer_made, answer_formed, answer_by, record_of, recorded_by}
 use Rattle.fk_trace.specs.Decision.Input.{Quiet}
 use Rattle.fk_trace.specs.Decision.Answer.{Refuses, Opens}
 use Rattle.fk_trace.specs.Attempts.{IsAttempt, AttemptsThatOpen}
-use Rattle.fk_trace.proofs.Grants.{fresh-unseen, making-made}
-use Rattle.fk_run.specs.Place.{Place}
+use Rattle.fk_trace.proofs.Grants.{fresh-unseen, making-made, opens-answer}
+use Rattle.fk_trace.proofs.Ledgers.{after-append}
+use Rattle.fk_run.specs.Left.{is_attempt}
+use Rattle.fk_run.specs.Place.{Place, behind, changed}
 use Rattle.fk_host.specs.Count.{counted}
 use Rattle.fk_host.specs.Disk.{IfTold, Above}
 use Rattle.fk_log.specs.Line.{Line}
@@ -29,12 +31,12 @@ use Rattle.fk_log.specs.Log.{input_lines, attempt_line, attempt_lines}
 use Rattle.fk_log.specs.Log.RefusalLine.{Untold}
 use Rattle.fk_log.specs.Writing.{Output, Logs}
 use Rattle.fk_conf.specs.declared.conf.Conf.{Conf}
-use Rattle.fk_ledger.specs.Book.{Book, room_of, room_within, live_ids}
+use Rattle.fk_ledger.specs.Book.{Book, room_within, making_record, calls_of, live_ids}
 use Rattle.fk_ledger.specs.Payloads.{greatest_stamp}
 use Rattle.fk_ledger.specs.Holds.{KeepsLedger}
 use Rattle.fk_ledger.specs.Stretch.{Stretch}
-use Rattle.fk_child.specs.View.{View, MakesCalls, Adds, SparesOthers}
-use Rattle.fk_child.specs.Crew.{CrewState, IsTied}
+use Rattle.fk_child.specs.View.{View, MakesCalls, StandsOnArea, SparesOthers, Adds}
+use Rattle.fk_child.specs.Crew.{CrewState, IsTied, StandsAt}
 use Rattle.fk_child.specs.Calls.{Goes, AwaitsOpen, is_begun, recorded}
 use Rattle.fk_turn.specs.declared.policy.Policy.{Policy}
 use Rattle.fk_turn.specs.declared.turn_err.TurnErr.{TurnErr}
@@ -42,13 +44,15 @@ use Rattle.fk_turn.specs.declared.turn_err.TurnErr.TheVariants.{Disk, NoMemory}
 use Rattle.fk_turn.specs.Daemon.{DaemonState, Scene, DaemonStands, AtRest, scene}
 use Rattle.fk_turn.specs.Rules.{HasRightCode, rules_by, permit_of}
 use Rattle.fk_turn.specs.Serving.{calls_for}
-use Rattle.fk_turn.specs.Parts.{answer_at, answering, Answers, AnswersWhole, FailsToRecord, WantsToAnswer, IsGrantedBy, IsDraftOf, IsLike, datagram_turn, ServesPart}
-use Rattle.fk_child.proofs.Images.{adds-append, adds-change, calls-none, calls-then, calls-same}
+use Rattle.fk_turn.specs.Parts.{answer_at, answering, Answers, AnswersWhole, FailsToRecord, WantsToAnswer, IsGrantedBy, IsDraftOf, IsLike, datagram_turn, reached, ServesPart}
+use Rattle.fk_child.proofs.Images.{adds-append, adds-made, adds-failing, calls-none, calls-then, calls-same}
 use Rattle.fk_log.proofs.Logged.{Logs-append}
 use Rattle.fk_turn.proofs.Logging.{logs-nothing}
 use Rattle.fk_turn.specs.declared.decision.Draft.{Draft}
 use Rattle.fk_turn.proofs.Items.{tries-attempts}
 use Rattle.fk_turn.proofs.Lines.{no_refusal-told}
+use Rattle.fk_turn.proofs.Places.{place-same}
+use Rattle.fk_turn.proofs.Making.{Fronts, fronts}
 use Rattle.fk_turn.proofs.Assembly.{owes-live}
 use Rattle.fk_turn.proofs.Parting.{crew_host, reached-nothing}
 use Rattle.fk_child.proofs.Others.{area-kept}
@@ -68,7 +72,7 @@ open-line moment id words (PollFailed number) h = absurd h
 -- a datagram is refused, and told so
 pub refuses : (policy : Policy) (place : Place) (moment : ℕ) (source : Ip4) (datagram : List ℕ) (why : LogWhy) (d : DaemonState) (h : View) (o0 o1 : Output)
     → answer_at policy place (datagram_turn moment source datagram) ≡ Refuses why
-    → AtRest policy.conf.now (scene d h o0) place → Adds [] place.ledger [] true h h → Logs (RefusedLine moment source why ∷ []) o0 o1
+    → AtRest policy.conf.now (scene d h o0) place → Adds [] place.ledger [] [] h h → Logs (RefusedLine moment source why ∷ []) o0 o1
     → AnswersWhole policy place (datagram_turn moment source datagram) (scene d h o0) (scene d h o1)
 refuses policy place moment source datagram why d h o0 o1 e rest adds line =
     let turn : FeedTurn = datagram_turn moment source datagram in
@@ -77,6 +81,7 @@ refuses policy place moment source datagram why d h o0 o1 e rest adds line =
       changes = rest.stands.changes;
       limit = rest.stands.limit;
       room = rest.stands.room;
+      keep = rest.stands.keep;
       unspent = rest.stands.unspent;
       area = rest.stands.area;
       stands = rest.stands.stands;
@@ -91,7 +96,7 @@ refuses policy place moment source datagram why d h o0 o1 e rest adds line =
     record {
       opened = [];
       attempts = subst (λ (a : Answer). AttemptsThatOpen a []) (sym e) refl;
-      calls = calls-same 0 (calls_for [] (recorded_by (answer_at policy place turn))) h h (ap (λ (a : Answer). calls_for [] (recorded_by a)) (sym e)) (calls-none h);
+      calls = calls-same 0 (calls_for [] place.ledger (recorded_by (answer_at policy place turn))) h h (ap (λ (a : Answer). calls_for [] place.ledger (recorded_by a)) (sym e)) (calls-none h);
       serves = subst (λ (a : Answer). ServesPart policy.conf.now moment place (answering turn a []) (scene d h o0) s1) (sym e) serves;
       settled = rest.settled;
     }
@@ -111,129 +116,162 @@ module _ (policy : Policy) (place : Place) (moment : ℕ) (source : Ip4) (datagr
   made_of_permit = record_of rules place.ledger moment datagram permit
 
   -- what is answered then depends on the room alone
-  by-room : answer_at policy place turn ≡ answer_made item permit (making rules.room place.ledger (OpenChange item))
+  by-room : answer_at policy place turn ≡ answer_made item permit (making rules.room moment place.ledger (OpenChange item))
   by-room =
       ap (λ (shape : Option LogWhy). answer_formed rules place.ledger moment source datagram shape) granted.formed
       ∙ ap (λ (known : Bool). cond known (Refuses Replay) (answer_by rules place.ledger moment datagram (rules.admit moment source datagram))) granted.unseen
       ∙ ap (λ (verdict : Verdict). answer_by rules place.ledger moment datagram verdict) granted.admitted
-      ∙ ap (λ (stale : Bool). cond stale (Refuses Stale) (answer_made made_of_permit permit (making rules.room place.ledger (OpenChange made_of_permit))))
+      ∙ ap (λ (stale : Bool). cond stale (Refuses Stale) (answer_made made_of_permit permit (making rules.room moment place.ledger (OpenChange made_of_permit))))
       (le-ltb permit.stamp (floor_of place.ledger) granted.current)
-      ∙ ap (λ (x : OpenRecord). answer_made x permit (making rules.room place.ledger (OpenChange x))) (sym made)
+      ∙ ap (λ (x : OpenRecord). answer_made x permit (making rules.room moment place.ledger (OpenChange x))) (sym made)
 
   module _ (d : DaemonState) (h0 : View) (o0 : Output) (rest : AtRest policy.conf.now (scene d h0 o0) place) where
     -- the room in the ledger is that of the rules
-    room-is : making (room_of d.book) d.book.changes (OpenChange item) ≡ making rules.room place.ledger (OpenChange item)
+    room-is : making_record d.book item ≡ making rules.room moment place.ledger (OpenChange item)
     room-is =
-        ap (λ (n : ℕ). making (room_within n d.book.limit) d.book.changes (OpenChange item)) rest.stands.room
-        ∙ ap (λ (n : ℕ). making (room_within policy.conf.now.room n) d.book.changes (OpenChange item)) rest.stands.limit
-        ∙ ap (λ (cs : List Change). making rules.room cs (OpenChange item)) rest.stands.changes
+        ap (λ (n : ℕ). making (room_within n d.book.limit d.book.keep) item.moment d.book.changes (OpenChange item)) rest.stands.room
+        ∙ ap (λ (n : ℕ). making (room_within policy.conf.now.room n d.book.keep) item.moment d.book.changes (OpenChange item)) rest.stands.limit
+        ∙ ap (λ (n : ℕ). making (room_within policy.conf.now.room policy.conf.now.live n) item.moment d.book.changes (OpenChange item)) rest.stands.keep
+        ∙ ap (λ (n : ℕ). making rules.room n d.book.changes (OpenChange item)) (ap (λ (x : OpenRecord). x.moment) made)
+        ∙ ap (λ (cs : List Change). making rules.room moment cs (OpenChange item)) rest.stands.changes
 
-    pub full-refused : making (room_of d.book) d.book.changes (OpenChange item) ≡ None → answer_at policy place turn ≡ Refuses Full
+    pub full-refused : making_record d.book item ≡ None → answer_at policy place turn ≡ Refuses Full
     full-refused full = by-room ∙ ap (answer_made item permit) (sym room-is ∙ full)
 
-    pub room-opens : (making (room_of d.book) d.book.changes (OpenChange item) ≡ None → ⊥) → answer_at policy place turn ≡ Opens item permit (OpenChange item ∷ [])
-    room-opens some = by-room ∙ made-opens (making rules.room place.ledger (OpenChange item)) refl
-      where
-        made-opens : (m : Option (List Change)) → making rules.room place.ledger (OpenChange item) ≡ m → answer_made item permit m ≡ Opens item permit (OpenChange item ∷ [])
-        made-opens (Some changes) e = ap (λ (cs : List Change). Opens item permit cs) (making-made rules place.ledger item changes e)
-        made-opens None e = absurd (some (room-is ∙ e))
+    pub room-opens : (changes : List Change) → making_record d.book item ≡ Some changes → answer_at policy place turn ≡ Opens item permit changes
+    room-opens changes some = by-room ∙ ap (answer_made item permit) (sym room-is ∙ some)
+
+    -- what is made for the record at the place
+    pub room-fronts : (changes : List Change) → making_record d.book item ≡ Some changes → Fronts place item changes
+    room-fronts changes some = fronts rules.room moment place item changes (making-made rules.room moment place.ledger item changes (sym room-is ∙ some))
 
     -- the disk failed in the call that records
-    pub fails-record : (book : Book) (h1 : View) → answer_at policy place turn ≡ Opens item permit (OpenChange item ∷ [])
+    pub fails-record : (changes : List Change) (book : Book) (h1 : View) → answer_at policy place turn ≡ Opens item permit changes
         → IfTold h0.told h1.told (λ before later. later.trace ≡ before.trace)
-        → IfTold h0.told h1.told (Stretch d.book.changes (OpenChange item ∷ []) false h0.images h1.images) → SparesOthers h0 h1
+        → IfTold h0.told h1.told (Stretch d.book.changes changes false h0.images h1.images) → (AreNoFloors changes → SparesOthers h0 h1)
         → h1.faults ≡ counted h0.faults → book.changes ≡ d.book.changes
         → FailsToRecord policy place turn (scene d h0 o0) (scene (record d { book = book }) h1 o0)
-    fails-record book h1 opens trace stretch spares faults changes = record {
+    fails-record changes book h1 opens trace stretch spares faults same = record {
       item = item;
       permit = permit;
+      making = changes;
       given = opens;
-      adds = adds-change place.ledger (OpenChange item) false h0 h1 rest.stands.stands.keeps trace
-          (subst (λ (cs : List Change). IfTold h0.told h1.told (Stretch cs (OpenChange item ∷ []) false h0.images h1.images)) rest.stands.changes stretch) spares;
+      adds = adds-failing place.ledger changes h0 h1 rest.stands.stands.keeps trace
+          (subst (λ (cs : List Change). IfTold h0.told h1.told (Stretch cs changes false h0.images h1.images)) rest.stands.changes stretch) spares;
       disk = faults;
       logs = logs-nothing o0;
-      book = changes ∙ rest.stands.changes;
-      parks = rest.stands.stands.tied.owes ∙ ap live_ids (sym (changes ∙ rest.stands.changes));
+      book = same ∙ rest.stands.changes;
+      parks = rest.stands.stands.tied.owes ∙ ap live_ids (sym (same ∙ rest.stands.changes));
     }
 
     -- the record was made
-    module _ (book : Book) (h1 : View) (opens : answer_at policy place turn ≡ Opens item permit (OpenChange item ∷ []))
+    module _ (changes : List Change) (made_fronts : Fronts place item changes) (book : Book) (h1 : View) (opened : answer_at policy place turn ≡ Opens item permit changes)
         (trace : IfTold h0.told h1.told (λ before later. later.trace ≡ before.trace)) (above : h1.above ≡ h0.above)
-        (stretch : IfTold h0.told h1.told (Stretch d.book.changes (OpenChange item ∷ []) true h0.images h1.images)) (spares : SparesOthers h0 h1) (faults : h1.faults ≡ h0.faults)
-        (kept : book ≡ record d.book { changes = after d.book.changes (OpenChange item ∷ []); reserved = book.reserved }) where
+        (stretch : IfTold h0.told h1.told (Stretch d.book.changes changes true h0.images h1.images)) (spares : AreNoFloors changes → SparesOthers h0 h1) (faults : h1.faults ≡ h0.faults)
+        (kept : book ≡ record d.book { changes = after d.book.changes changes; area = book.area; reserved = book.reserved }) where
+      -- the place before its record, behind what stands before it
+      abbrev pub front_place : Place
+      front_place = changed place made_fronts.front
+
       abbrev open_place : Place
-      open_place = recorded place item
+      open_place = recorded front_place item
 
-      changes-are : book.changes ≡ open_place.ledger
-      changes-are = ap (λ (b : Book). b.changes) kept ∙ ap (λ (cs : List Change). cs ++ OpenChange item ∷ []) rest.stands.changes
+      made-ledger : after place.ledger changes ≡ open_place.ledger
+      made-ledger = ap (after place.ledger) made_fronts.placed ∙ after-append place.ledger made_fronts.front (OpenChange item ∷ [])
 
-      adds1 : Adds [] place.ledger (OpenChange item ∷ []) true h0 h1
-      adds1 = adds-change place.ledger (OpenChange item) true h0 h1 rest.stands.stands.keeps trace
-          (subst (λ (cs : List Change). IfTold h0.told h1.told (Stretch cs (OpenChange item ∷ []) true h0.images h1.images)) rest.stands.changes stretch) spares
+      changes-are : book.changes ≡ after place.ledger changes
+      changes-are = ap (λ (b : Book). b.changes) kept ∙ ap (λ (cs : List Change). after cs changes) rest.stands.changes
+
+      adds1 : Adds [] place.ledger changes [] h0 h1
+      adds1 = adds-made place.ledger changes h0 h1 trace
+          (subst (λ (cs : List Change). IfTold h0.told h1.told (Stretch cs changes true h0.images h1.images)) rest.stands.changes stretch) spares
 
       -- its open is yet to be attempted
-      pub awaits-open : (id : ℕ) → id ≡ item.id → (KeepsLedger book.changes h1.told h1.images) → AwaitsOpen id item.due item place (crew_host d.crew h1)
+      pub awaits-open : (id : ℕ) → id ≡ item.id → (KeepsLedger book.changes h1.told h1.images) → AwaitsOpen id item.due item front_place (crew_host d.crew h1)
       awaits-open id same keeps = record {
         numbered = sym same;
-        next = ap (λ (x : OpenRecord). x.id) made;
+        next = ap (λ (x : OpenRecord). x.id) made ∙ sym made_fronts.next;
         until = refl;
-        tied = subst (λ (a : Above). IsTied d.crew a place) (sym above) rest.stands.stands.tied;
-        keeps = subst (λ (cs : List Change). KeepsLedger cs h1.told h1.images) changes-are keeps;
+        tied = subst (λ (a : Above). IsTied d.crew a front_place) (sym above) (made_fronts.tied d.crew h0.above rest.stands.stands.tied);
+        keeps = subst (λ (cs : List Change). KeepsLedger cs h1.told h1.images) (changes-are ∙ made-ledger) keeps;
       }
 
+      made-opens : opens changes ≡ item ∷ []
+      made-opens = opens-answer rules place.ledger turn item permit changes opened
+
+      -- what calls behind the record add
+      adds-behind : (items : List Item) (h2 : View) → AllByRecursion (λ x. is_attempt x.event ≡ true) items → Adds items open_place.ledger [] [] h1 h2 → Adds items place.ledger changes [] h0 h2
+      adds-behind items h2 attempts more =
+          subst (λ (cs : List Change). Adds items place.ledger cs [] h0 h2) (append-nil changes)
+          (adds-append [] items place.ledger changes [] [] (record { attempts = inl refl; others = inr attempts }) h0 h1 h2 adds1 faults
+          (subst (λ (cs : List Change). Adds items cs [] [] h1 h2) (sym made-ledger) more))
+
       module _ (stanza : ℕ) (numbered : stanza ≡ grant.stanza) (o1 : Output) (granted-line : Logs (GrantedLine moment source item.id stanza item.due ∷ []) o0 o1) (crew : CrewState) (h2 : View) where
-        grant-logs : Logs (GrantedLine moment source item.id grant.stanza item.due ∷ []) o0 o1
-        grant-logs = subst (λ (n : ℕ). Logs (GrantedLine moment source item.id n item.due ∷ []) o0 o1) numbered granted-line
+        abbrev granted_lines : List Line
+        granted_lines = map (λ (x : OpenRecord). GrantedLine moment source x.id grant.stanza x.due) (opens changes)
+
+        grant-logs : Logs granted_lines o0 o1
+        grant-logs = subst (λ (items : List OpenRecord). Logs (map (λ (x : OpenRecord). GrantedLine moment source x.id grant.stanza x.due) items) o0 o1) (sym made-opens)
+            (subst (λ (n : ℕ). Logs (GrantedLine moment source item.id n item.due ∷ []) o0 o1) numbered granted-line)
 
         -- memory was wanting in the host's start
-        pub wants-start : MakesCalls 4 h0 h1 → Goes 1 moment open_place [] (crew_host d.crew h1) (crew_host crew h2)
+        pub wants-start : MakesCalls (calls_of d.book.changes changes) h0 h1 → Goes 1 moment open_place [] (crew_host d.crew h1) (crew_host crew h2)
             → WantsToAnswer policy place turn (scene d h0 o0) (scene (record { book = book; crew = crew; turns = d.turns }) h2 o1)
-        wants-start four goes = record {
+        wants-start calls goes = record {
           source = source;
           datagram = datagram;
           brought = refl;
           formed = granted.formed;
           fresh = fresh-unseen (rules.digest datagram) place.ledger granted.unseen;
           code = inr (permit, granted.admitted);
-          changes = OpenChange item ∷ [];
-          front = inr (sym (ap recorded_by opens), (λ e. cc), calls-same (4 + 1) (calls_for [] (OpenChange item ∷ []) + 1) h0 h2 refl (calls-then 4 1 h0 h1 h2 four goes.calls));
-          adds = adds-append [] [] place.ledger (OpenChange item ∷ []) [] (record { attempts = inl refl; others = inr tt }) true h0 h1 h2 adds1 faults goes.adds;
+          changes = changes;
+          front = inr (
+            sym (ap recorded_by opened),
+            (λ none. let one : item ∷ [] ≡ [] = sym made-opens ∙ none in cc),
+            calls-same (calls_of d.book.changes changes + 1) (calls_for [] place.ledger changes + 1) h0 h2
+                (let same = ap (λ (cs : List Change). calls_of cs changes) rest.stands.changes in omega arith) (calls-then (calls_of d.book.changes changes) 1 h0 h1 h2 calls goes.calls),
+          );
+          adds = adds-behind [] h2 tt goes.adds;
           disk = goes.disk ∙ faults;
-          logs = subst (λ (a : Answer). Logs (input_lines moment turn.input Untold (OpenChange item ∷ []) a) o0 o1) (sym opens) grant-logs;
+          logs = subst (λ (a : Answer). Logs (input_lines moment turn.input Untold changes a) o0 o1) (sym opened) grant-logs;
           book = changes-are;
-          parks = goes.stands.tied.owes ∙ ap live_ids (sym changes-are);
+          parks = goes.stands.tied.owes ∙ ap live_ids (sym (changes-are ∙ made-ledger));
         }
 
         -- its open was attempted
-        pub opens-whole : MakesCalls 4 h0 h1 → (opening : List (List ℕ)) (begun : Bool) (attempt : Item) (o2 : Output) → opening ≡ permit.opening → IsAttempt (Open item.id) opening attempt.event → begun ≡ is_begun attempt.event
+        pub opens-whole : MakesCalls (calls_of d.book.changes changes) h0 h1 → StandsOnArea book.area h1 → (opening : List (List ℕ)) (begun : Bool) (attempt : Item) (o2 : Output) → opening ≡ permit.opening
+            → IsAttempt (Open item.id) opening attempt.event → begun ≡ is_begun attempt.event
             → Goes 1 moment open_place (attempt ∷ []) (crew_host d.crew h1) (crew_host crew h2) → Logs (OpenedLine moment item.id opening begun ∷ []) o1 o2 → crew.unsettled ≡ []
             → AnswersWhole policy place turn (scene d h0 o0) (scene (record { book = book; crew = crew; turns = d.turns }) h2 o2)
-        opens-whole four opening begun attempt o2 words tried is goes line settled =
+        opens-whole calls stood opening begun attempt o2 words tried is goes line settled =
             let s2 : Scene = scene (record { book = book; crew = crew; turns = d.turns }) h2 o2 in
             let lines : OpenedLine moment item.id opening begun ∷ [] ≡ attempt_lines moment (attempt ∷ []) =
             ap (λ (b : Bool). OpenedLine moment item.id opening b ∷ []) is ∙ sym (open-line moment item.id opening attempt.event tried) in
-            let serves : ServesPart policy.conf.now moment place (answering turn (Opens item permit (OpenChange item ∷ [])) (attempt ∷ [])) (scene d h0 o0) s2 = record {
-              adds = adds-append [] (attempt ∷ []) place.ledger (OpenChange item ∷ []) []
-                  (record { attempts = inl refl; others = inr (tries-attempts (attempt ∷ []) ((Open item.id, opening, tried), tt)) }) true h0 h1 h2 adds1 faults goes.adds;
+            let given : Answer = Opens item permit changes in
+            let at : Place = reached moment place (answering turn given (attempt ∷ [])) in
+            let there : behind moment open_place (attempt ∷ []) ≡ at = place-same (behind moment open_place (attempt ∷ [])) at refl refl (sym made-ledger) refl in
+            let serves : ServesPart policy.conf.now moment place (answering turn given (attempt ∷ [])) (scene d h0 o0) s2 = record {
+              adds = adds-behind (attempt ∷ []) h2 (tries-attempts (attempt ∷ []) ((Open item.id, opening, tried), tt)) goes.adds;
               disk = goes.disk ∙ faults;
-              logs = Logs-append (GrantedLine moment source item.id grant.stanza item.due ∷ []) (attempt_lines moment (attempt ∷ [])) o0 o1 o2 grant-logs
-                  (subst (λ (xs : List Line). Logs xs o1 o2) lines line);
+              logs = Logs-append granted_lines (attempt_lines moment (attempt ∷ [])) o0 o1 o2 grant-logs (subst (λ (xs : List Line). Logs xs o1 o2) lines line);
               stands = record {
                 changes = changes-are;
                 limit = ap (λ (b : Book). b.limit) kept ∙ rest.stands.limit;
                 room = ap (λ (b : Book). b.room) kept ∙ rest.stands.room;
+                keep = ap (λ (b : Book). b.keep) kept ∙ rest.stands.keep;
                 unspent = ap (λ (b : Book). b.is_spent) kept ∙ rest.stands.unspent;
-                area = area-kept book book h1 h2 refl goes.adds.others (area-kept d.book book h0 h1 (ap (λ (b : Book). b.area) kept) spares rest.stands.area);
-                stands = goes.stands;
+                area = area-kept book book h1 h2 refl goes.selects stood;
+                stands = subst (StandsAt (crew_host crew h2)) there goes.stands;
                 number = rest.stands.number;
               };
             } in
             record {
               opened = attempt ∷ [];
-              calls = calls-same (4 + 1) (calls_for (attempt ∷ []) (recorded_by (answer_at policy place turn))) h0 h2
-                  (ap (λ (a : Answer). calls_for (attempt ∷ []) (recorded_by a)) (sym opens)) (calls-then 4 1 h0 h1 h2 four goes.calls);
-              attempts = subst (λ (a : Answer). AttemptsThatOpen a (attempt ∷ [])) (sym opens) (subst (λ (ws : List (List ℕ)). IsAttempt (Open item.id) ws attempt.event) words tried);
-              serves = subst (λ (a : Answer). ServesPart policy.conf.now moment place (answering turn a (attempt ∷ [])) (scene d h0 o0) s2) (sym opens) serves;
+              calls = calls-same (calls_of d.book.changes changes + 1) (calls_for (attempt ∷ []) place.ledger (recorded_by (answer_at policy place turn))) h0 h2
+                  (let same = ap (λ (cs : List Change). calls_of cs changes) rest.stands.changes in let made_is = ap (λ (a : Answer). calls_of place.ledger (recorded_by a)) opened in omega arith)
+                  (calls-then (calls_of d.book.changes changes) 1 h0 h1 h2 calls goes.calls);
+              attempts = subst (λ (a : Answer). AttemptsThatOpen a (attempt ∷ [])) (sym opened) (subst (λ (ws : List (List ℕ)). IsAttempt (Open item.id) ws attempt.event) words tried);
+              serves = subst (λ (a : Answer). ServesPart policy.conf.now moment place (answering turn a (attempt ∷ [])) (scene d h0 o0) s2) (sym opened) serves;
               settled = settled;
             }
 
@@ -253,6 +291,7 @@ like-rests conf d e h o place like rest =
         changes = rest.stands.changes;
         limit = rest.stands.limit;
         room = rest.stands.room;
+        keep = rest.stands.keep;
         unspent = rest.stands.unspent;
         area = rest.stands.area;
         stands = record {
@@ -277,7 +316,7 @@ like-rests conf d e h o place like rest =
 -- memory was wanting before the record
 pub wants-before : (policy : Policy) (place : Place) (moment : ℕ) (source : Ip4) (datagram : List ℕ) (d e : DaemonState) (h : View) (o : Output)
     → AtRest policy.conf.now (scene d h o) place → (rules_by policy).misshapen datagram ≡ None → is_seen ((rules_by policy).digest datagram) d.book.changes ≡ false
-    → HasRightCode policy moment source datagram → Adds [] place.ledger [] true h h → IsLike d e → WantsToAnswer policy place (datagram_turn moment source datagram) (scene d h o) (scene e h o)
+    → HasRightCode policy moment source datagram → Adds [] place.ledger [] [] h h → IsLike d e → WantsToAnswer policy place (datagram_turn moment source datagram) (scene d h o) (scene e h o)
 wants-before policy place moment source datagram d e h o rest formed unseen code adds like =
     let at : FeedTurn = datagram_turn moment source datagram in
     let unseen_there : is_seen ((rules_by policy).digest datagram) place.ledger ≡ false =
@@ -325,6 +364,7 @@ answers-from policy place at d e h o new (Ok x) a = record {
 answers-from policy place at d e h o new (Err Disk) a = record {
   item = a.item;
   permit = a.permit;
+  making = a.making;
   given = a.given;
   adds = a.adds;
   disk = a.disk;
@@ -349,7 +389,7 @@ answers-from policy place at d e h o new (Err NoMemory) a = record {
 }
 
 -- a turn that brought nothing is answered nothing
-pub quietly : (policy : Policy) (place : Place) (moment : ℕ) (d : DaemonState) (h : View) (o : Output) → AtRest policy.conf.now (scene d h o) place → Adds [] place.ledger [] true h h
+pub quietly : (policy : Policy) (place : Place) (moment : ℕ) (d : DaemonState) (h : View) (o : Output) → AtRest policy.conf.now (scene d h o) place → Adds [] place.ledger [] [] h h
     → AnswersWhole policy place (record { moment = moment; input = Quiet }) (scene d h o) (scene d h o)
 quietly policy place moment d h o rest adds = record {
   opened = [];

@@ -14,7 +14,7 @@ use Rattle.fk_log.specs.Line.Line.{TurnLine, SettledLine}
 use Rattle.fk_log.specs.Log.{poll_lines}
 use Rattle.fk_log.specs.Writing.{Output, Logs}
 use Rattle.fk_conf.specs.declared.conf.Conf.{Conf}
-use Rattle.fk_ledger.specs.Book.{Book, live_ids}
+use Rattle.fk_ledger.specs.Book.{Book, calls_of, live_ids}
 use Rattle.fk_child.specs.declared.items.EndItem.{EndItem}
 use Rattle.fk_child.specs.View.{View, MakesCalls, Adds}
 use Rattle.fk_child.specs.Crew.{CrewState, CrewHost, StandsAt}
@@ -28,6 +28,7 @@ use Rattle.fk_child.proofs.Others.{area-kept}
 use Rattle.fk_turn.proofs.Lines.{ends-lines}
 use Rattle.fk_log.proofs.Logged.{Logs-append}
 use Rattle.fk_turn.proofs.Logging.{logs-nothing}
+use Rattle.fk_turn.proofs.Making.{calls_of-append}
 use Rattle.fk_turn.proofs.Assembly.{adds-onto, part-same, owes-live}
 
 abbrev pub crew_host : CrewState → View → CrewHost
@@ -55,8 +56,9 @@ begins conf moment number place book turns c0 c1 c2 h0 h1 h2 o0 o1 o2 rest is li
       changes = rest.stands.changes;
       limit = rest.stands.limit;
       room = rest.stands.room;
+      keep = rest.stands.keep;
       unspent = rest.stands.unspent;
-      area = area-kept book book h1 h2 refl polls.goes.adds.others (area-kept book book h0 h1 refl goes.adds.others rest.stands.area);
+      area = area-kept book book h1 h2 refl polls.goes.selects (area-kept book book h0 h1 refl goes.selects rest.stands.area);
       stands = polls.goes.stands;
       number = rest.stands.number;
     } in
@@ -65,10 +67,10 @@ begins conf moment number place book turns c0 c1 c2 h0 h1 h2 o0 o1 o2 rest is li
       polled = polls.items;
       begins = marks.event ∙ ap Turn same;
       polls = polls.polled;
-      calls = calls-same (1 + length polls.items) (calls_for (start ∷ polls.items) []) h0 h2 (omega arith)
+      calls = calls-same (1 + length polls.items) (calls_for (start ∷ polls.items) place.ledger []) h0 h2 (omega arith)
           (calls-then 1 (length polls.items) h0 h1 h2 goes.calls polls.goes.calls);
       serves = record {
-        adds = adds-onto (start ∷ []) polls.items place.ledger [] true h0 h1 h2 (inl refl) goes.adds goes.disk polls.goes.adds;
+        adds = adds-onto (start ∷ []) polls.items place.ledger [] [] h0 h1 h2 (inl refl) goes.adds goes.disk polls.goes.adds;
         disk = polls.goes.disk ∙ goes.disk;
         logs = subst (λ (xs : List Line). Logs xs o0 o2) lines (Logs-append (TurnLine moment number ∷ []) (map (end_line moment) c2.ends) o0 o1 o2 line ends);
         stands = subst (DaemonStands conf s2) (place-same at (reached moment place (beginning moment place start polls.items)) refl refl refl refl) stands;
@@ -83,17 +85,17 @@ nothing = record { items = []; changes = []; lines = [] }
 pub reached-nothing : (moment : ℕ) (place : Place) → place ≡ reached moment place nothing
 reached-nothing moment place = place-same place (reached moment place nothing) refl refl refl refl
 
-pub serves-nothing : (conf : Conf) (moment : ℕ) (place : Place) (at : Scene) → DaemonStands conf at place → Adds [] place.ledger [] true at.host at.host → ServesPart conf moment place nothing at at
+pub serves-nothing : (conf : Conf) (moment : ℕ) (place : Place) (at : Scene) → DaemonStands conf at place → Adds [] place.ledger [] [] at.host at.host → ServesPart conf moment place nothing at at
 serves-nothing conf moment place at h adds = record { adds = adds; disk = refl; logs = logs-nothing at.output; stands = subst (DaemonStands conf at) (reached-nothing moment place) h }
 
 -- the first of the records that are to be settled are, and the others are yet to be
 pub record SettlesFront (conf : Conf) (moment : ℕ) (place : Place) (old new : Scene) : Type 0 where
   pub made : List ℕ
   pub order : old.daemon.crew.unsettled ≡ made ++ new.daemon.crew.unsettled
-  pub calls : MakesCalls (calls_for [] (map Done made)) old.host new.host
+  pub calls : MakesCalls (calls_for [] place.ledger (map Done made)) old.host new.host
   pub serves : ServesPart conf moment place (settlement moment made) old new
 
-pub settles-none : (conf : Conf) (moment : ℕ) (place : Place) (at : Scene) → DaemonStands conf at place → Adds [] place.ledger [] true at.host at.host → SettlesFront conf moment place at at
+pub settles-none : (conf : Conf) (moment : ℕ) (place : Place) (at : Scene) → DaemonStands conf at place → Adds [] place.ledger [] [] at.host at.host → SettlesFront conf moment place at at
 settles-none conf moment place at h adds = record { made = []; order = refl; calls = calls-none at.host; serves = serves-nothing conf moment place at h adds }
 
 -- one more record is settled
@@ -115,8 +117,9 @@ settles-more conf moment place s0 id turns book1 book2 c1 c2 h1 h2 o1 o2 front f
         changes = ap (λ (b : Book). b.changes) first.book ∙ ap (λ (cs : List Change). cs ++ Done id ∷ []) stands1.changes;
         limit = ap (λ (b : Book). b.limit) first.book ∙ stands1.limit;
         room = ap (λ (b : Book). b.room) first.book ∙ stands1.room;
+        keep = ap (λ (b : Book). b.keep) first.book ∙ stands1.keep;
         unspent = ap (λ (b : Book). b.is_spent) first.book ∙ stands1.unspent;
-        area = area-kept book1 book2 h1 h2 (ap (λ (b : Book). b.area) first.book) first.adds.others stands1.area;
+        area = area-kept book1 book2 h1 h2 (ap (λ (b : Book). b.area) first.book) first.selects stands1.area;
         stands = first.stands;
         number = stands1.number;
       };
@@ -124,9 +127,9 @@ settles-more conf moment place s0 id turns book1 book2 c1 c2 h1 h2 o1 o2 front f
     record {
       made = front.made ++ id ∷ [];
       order = front.order ∙ ap (λ (ids : List ℕ). front.made ++ ids) first.first ∙ sym (append_assoc front.made (id ∷ []) c2.unsettled);
-      calls = calls-same (calls_for [] (map Done front.made) + 4) (calls_for [] (map Done (front.made ++ id ∷ []))) s0.host h2
-          (let a = length-map front.made Done in let b = length-map (front.made ++ id ∷ []) Done in let d = length_push front.made id in omega (arith, a, b, d))
-          (calls-then (calls_for [] (map Done front.made)) 4 s0.host h1 h2 front.calls first.calls);
+      calls = calls-same (calls_for [] place.ledger (map Done front.made) + 4) (calls_for [] place.ledger (map Done (front.made ++ id ∷ []))) s0.host h2
+          (let both = ap (calls_of place.ledger) (map-append Done front.made (id ∷ [])) ∙ calls_of-append place.ledger (map Done front.made) (Done id ∷ []) in omega arith)
+          (calls-then (calls_for [] place.ledger (map Done front.made)) 4 s0.host h1 h2 front.calls first.calls);
       serves = subst (λ (part : Part). ServesPart conf moment place part s0 s2)
           (part-same (joined (settlement moment front.made) (settlement moment (id ∷ []))) (settlement moment (front.made ++ id ∷ [])) refl
           (sym (map-append Done front.made (id ∷ []))) (sym (map-append (SettledLine moment) front.made (id ∷ []))))
@@ -138,7 +141,7 @@ pub settles-all : (conf : Conf) (moment : ℕ) (place : Place) (s0 s1 : Scene) �
 settles-all conf moment place s0 s1 front none =
     let made : front.made ≡ s0.daemon.crew.unsettled = sym (front.order ∙ ap (λ (ids : List ℕ). front.made ++ ids) none ∙ append-nil front.made) in
     record {
-      calls = subst (λ (ids : List ℕ). MakesCalls (calls_for [] (map Done ids)) s0.host s1.host) made front.calls;
+      calls = subst (λ (ids : List ℕ). MakesCalls (calls_for [] place.ledger (map Done ids)) s0.host s1.host) made front.calls;
       serves = subst (λ (ids : List ℕ). ServesPart conf moment place (settlement moment ids) s0 s1) made front.serves;
       settled = none;
     }
@@ -155,7 +158,8 @@ fails-settle conf moment place s0 turns book1 book2 c1 c2 h1 h2 o1 front f =
       failed = f.id;
       later = c2.unsettled;
       order = front.order ∙ ap (λ (ids : List ℕ). front.made ++ ids) f.first;
-      adds = adds-append [] [] place.ledger (map Done front.made) (Done f.id ∷ []) (record { attempts = inr tt; others = inr tt }) false s0.host h1 h2 front.serves.adds front.serves.disk f.adds;
+      adds = subst (λ (cs : List Change). Adds [] place.ledger cs (Done f.id ∷ []) s0.host h2) (append-nil (map Done front.made))
+          (adds-append [] [] place.ledger (map Done front.made) [] (Done f.id ∷ []) (record { attempts = inr tt; others = inr tt }) s0.host h1 h2 front.serves.adds front.serves.disk f.adds);
       disk = f.disk ∙ ap counted front.serves.disk;
       logs = front.serves.logs;
       book = ap (λ (b : Book). b.changes) f.book ∙ front.serves.stands.changes;

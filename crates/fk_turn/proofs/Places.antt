@@ -1,5 +1,6 @@
 -- The places behind the parts of a turn, and parts that adjoin.
-use Rattle.std.proofs.Common.{◌≡◌, ℕ, ◌+◌, true, refl, sym, ap, subst, ◌∙◌}
+use Rattle.std.proofs.Common.{◌≡◌, ℕ, ◌+◌, List, [], refl, sym, ap, subst, ◌∙◌, append-nil}
+use Rattle.fk_trace.specs.declared.change.Change.{Change}
 use Rattle.fk_trace.proofs.Ledgers.{after-append}
 use Rattle.fk_trace.proofs.Settled.{past_after-append}
 use Rattle.fk_run.specs.Left.{MayStandBefore}
@@ -27,7 +28,8 @@ pub serves-join : (conf : Conf) (moment : ℕ) (place : Place) (a b : Part) (u v
     → MayStandBefore a.items a.changes b.items b.changes
     → ServesPart conf moment place a u v → ServesPart conf moment (reached moment place a) b v w → ServesPart conf moment place (joined a b) u w
 serves-join conf moment place a b u v w order first second = record {
-  adds = adds-append a.items b.items place.ledger a.changes b.changes order true u.host v.host w.host first.adds first.disk second.adds;
+  adds = adds-append a.items b.items place.ledger a.changes b.changes []
+      (subst (λ (cs : List Change). MayStandBefore a.items a.changes b.items cs) (sym (append-nil b.changes)) order) u.host v.host w.host first.adds first.disk second.adds;
   disk = second.disk ∙ first.disk;
   logs = Logs-append a.lines b.lines u.output v.output w.output first.logs second.logs;
   stands = subst (DaemonStands conf w) (reached-join moment place a b) second.stands;
@@ -61,6 +63,7 @@ next-stands conf at place h = record {
   changes = h.changes;
   limit = h.limit;
   room = h.room;
+  keep = h.keep;
   unspent = h.unspent;
   area = h.area;
   stands = stands-numbered (record { crew = at.daemon.crew; host = at.host }) place (place.number + 1) h.stands;

@@ -38,6 +38,7 @@ pub record DaemonStands (conf : Conf) (at : Scene) (place : Place) : Type 0 wher
   pub changes : at.daemon.book.changes ≡ place.ledger
   pub limit : at.daemon.book.limit ≡ conf.live
   pub room : at.daemon.book.room ≡ conf.room
+  pub keep : at.daemon.book.keep ≡ conf.keep
   pub unspent : at.daemon.book.is_spent ≡ false
   pub area : StandsOnArea at.daemon.book.area at.host
   pub stands : StandsAt (record { crew = at.daemon.crew; host = at.host }) place

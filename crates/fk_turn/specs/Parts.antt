@@ -58,7 +58,7 @@ reached moment place part = behind moment (changed place part.changes) part.item
 
 -- Such a part of a turn was served from the place. No call of the disk failed.
 pub record ServesPart (conf : Conf) (moment : ℕ) (place : Place) (part : Part) (old new : Scene) : Type 0 where
-  pub adds : Adds part.items place.ledger part.changes true old.host new.host
+  pub adds : Adds part.items place.ledger part.changes [] old.host new.host
   pub disk : new.host.faults ≡ old.host.faults
   pub logs : Logs part.lines old.output new.output
   pub stands : DaemonStands conf new (reached moment place part)
@@ -86,7 +86,7 @@ pub record BeginsTurn (conf : Conf) (moment : ℕ) (place : Place) (old new : Sc
   pub polled : List Item
   pub begins : start.event ≡ Turn place.number
   pub polls : PollsEachOnce (start ∷ place.past) polled
-  pub calls : MakesCalls (calls_for (start ∷ polled) []) old.host new.host
+  pub calls : MakesCalls (calls_for (start ∷ polled) place.ledger []) old.host new.host
   pub serves : ServesPart conf moment place (beginning moment place start polled) old new
   pub unsettled : new.daemon.crew.unsettled ≡ settled_in (start ∷ place.past) polled
 
@@ -96,7 +96,7 @@ settlement moment ids = record { items = []; changes = map Done ids; lines = map
 
 -- all that was to be settled is
 pub record SettlesWhole (conf : Conf) (moment : ℕ) (place : Place) (old new : Scene) : Type 0 where
-  pub calls : MakesCalls (calls_for [] (map Done old.daemon.crew.unsettled)) old.host new.host
+  pub calls : MakesCalls (calls_for [] place.ledger (map Done old.daemon.crew.unsettled)) old.host new.host
   pub serves : ServesPart conf moment place (settlement moment old.daemon.crew.unsettled) old new
   pub settled : new.daemon.crew.unsettled ≡ []
 
@@ -106,7 +106,7 @@ pub record FailsToSettle (moment : ℕ) (place : Place) (old new : Scene) : Type
   pub failed : ℕ
   pub later : List ℕ
   pub order : old.daemon.crew.unsettled ≡ made ++ failed ∷ later
-  pub adds : Adds [] place.ledger (map Done made ++ Done failed ∷ []) false old.host new.host
+  pub adds : Adds [] place.ledger (map Done made) (Done failed ∷ []) old.host new.host
   pub disk : new.host.faults ≡ counted old.host.faults
   pub logs : Logs (map (SettledLine moment) made) old.output new.output
   pub book : new.daemon.book.changes ≡ after place.ledger (map Done made)
@@ -132,7 +132,7 @@ answering turn given opened = record {
 pub record AnswersWhole (policy : Policy) (place : Place) (turn : FeedTurn) (old new : Scene) : Type 0 where
   pub opened : List Item
   pub attempts : AttemptsThatOpen (answer_at policy place turn) opened
-  pub calls : MakesCalls (calls_for opened (recorded_by (answer_at policy place turn))) old.host new.host
+  pub calls : MakesCalls (calls_for opened place.ledger (recorded_by (answer_at policy place turn))) old.host new.host
   pub serves : ServesPart policy.conf.now turn.moment place (answering turn (answer_at policy place turn) opened) old new
   pub settled : new.daemon.crew.unsettled ≡ []
 
@@ -140,8 +140,9 @@ pub record AnswersWhole (policy : Policy) (place : Place) (turn : FeedTurn) (old
 pub record FailsToRecord (policy : Policy) (place : Place) (turn : FeedTurn) (old new : Scene) : Type 0 where
   pub item : OpenRecord
   pub permit : Permit
-  pub given : answer_at policy place turn ≡ Opens item permit (OpenChange item ∷ [])
-  pub adds : Adds [] place.ledger (OpenChange item ∷ []) false old.host new.host
+  pub making : List Change
+  pub given : answer_at policy place turn ≡ Opens item permit making
+  pub adds : Adds [] place.ledger [] making old.host new.host
   pub disk : new.host.faults ≡ counted old.host.faults
   pub logs : Logs [] old.output new.output
   pub book : new.daemon.book.changes ≡ place.ledger
@@ -158,8 +159,8 @@ pub record WantsToAnswer (policy : Policy) (place : Place) (turn : FeedTurn) (ol
   pub code : HasRightCode policy turn.moment source datagram
   pub changes : List Change
   pub front : ((changes ≡ []) × MakesCalls 0 old.host new.host)
-      ⊎ ((changes ≡ recorded_by (answer_at policy place turn)) × (opens changes ≢ []) × MakesCalls (calls_for [] changes + 1) old.host new.host)
-  pub adds : Adds [] place.ledger changes true old.host new.host
+      ⊎ ((changes ≡ recorded_by (answer_at policy place turn)) × (opens changes ≢ []) × MakesCalls (calls_for [] place.ledger changes + 1) old.host new.host)
+  pub adds : Adds [] place.ledger changes [] old.host new.host
   pub disk : new.host.faults ≡ old.host.faults
   pub logs : Logs (input_lines turn.moment turn.input Untold changes (answer_at policy place turn)) old.output new.output
   pub book : new.daemon.book.changes ≡ after place.ledger changes

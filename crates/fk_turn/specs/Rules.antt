@@ -78,7 +78,7 @@ rules_of conf stanzas = record {
   misshapen = λ datagram. option_map (λ fault. why_of (refusal_of_shape fault)) (shape_fault datagram);
   digest = packet_digest;
   admit = λ moment source datagram. verdict_of stanzas (admitted stanzas (arrival conf.age source datagram moment));
-  room = room_within conf.room conf.live;
+  room = room_within conf.room conf.live conf.keep;
 }
 
 -- the same, from what a turn is served by

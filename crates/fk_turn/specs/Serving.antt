@@ -1,10 +1,10 @@
 -- What serving a turn does, whole or in part.
-use Rattle.std.specs.Prelude.{◌≡◌, ◌<◌, ℕ, ◌+◌, ◌*◌, length, map, true, false, List, [], ◌∷◌, ◌++◌, Result, Ok, Err}
+use Rattle.std.specs.Prelude.{◌≡◌, ◌<◌, ℕ, ◌+◌, length, map, false, List, [], ◌∷◌, ◌++◌, Result, Ok, Err}
 use Rattle.std.specs.List.{AllPairs}
 use Rattle.fk_trace.specs.declared.change.Change.{Change}
 use Rattle.fk_trace.specs.Trace.{Item, children, past_after}
 use Rattle.fk_trace.specs.declared.change.Change.TheVariants.{Done}
-use Rattle.fk_trace.specs.Ledger.{after, dones}
+use Rattle.fk_trace.specs.Ledger.{after, dones, ends_with_floor, AreOneCall}
 use Rattle.fk_trace.specs.Settled.{settlements}
 use Rattle.fk_trace.specs.Decision.{FeedTurn}
 use Rattle.fk_run.specs.Place.{Place}
@@ -16,7 +16,7 @@ use Rattle.fk_host.specs.Disk.{IfTold}
 use Rattle.fk_log.specs.Log.{RefusalLine, turn_lines, MayTellAt}
 use Rattle.fk_log.specs.Log.RefusalLine.{Told, Untold}
 use Rattle.fk_log.specs.Writing.{Logs}
-use Rattle.fk_ledger.specs.Book.{live_ids}
+use Rattle.fk_ledger.specs.Book.{calls_of, live_ids}
 use Rattle.fk_child.specs.View.{MakesCalls, Adds}
 use Rattle.fk_turn.specs.declared.feed_turn.FeedTurn.{FeedTurn as GivenTurn}
 use Rattle.fk_turn.specs.declared.policy.Policy.{Policy}
@@ -26,9 +26,9 @@ use Rattle.fk_turn.specs.Daemon.{DaemonState, Scene, AtRest}
 use Rattle.fk_turn.specs.Rules.{rules_by, turn_of}
 use Rattle.fk_turn.specs.Wanting.{WantsMemoryAt}
 
--- how many calls of the host bring these items and make these changes: one for each item, and four for each change
-abbrev pub calls_for : List Item → List Change → ℕ
-calls_for items changes = length items + 4 * length changes
+-- how many calls of the host bring these items and make these changes over the ledger: one for each item, and those of the changes
+abbrev pub calls_for : List Item → List Change → List Change → ℕ
+calls_for items ledger changes = length items + calls_of ledger changes
 
 -- the first of these items stands at the moment
 abbrev pub BeginsAt : ℕ → List Item → Type 0
@@ -45,26 +45,29 @@ pub record ServesWhole (policy : Policy) (place : Place) (turn : FeedTurn) (old 
   pub of_turn : taken.turn ≡ turn
   pub whole : WholeTurn (rules_by policy) place taken
   -- the host was not called for anything else
-  pub calls : MakesCalls (calls_for taken.items taken.changes) old.host new.host
-  pub adds : Adds taken.items place.ledger taken.changes true old.host new.host
+  pub calls : MakesCalls (calls_for taken.items place.ledger taken.changes) old.host new.host
+  pub adds : Adds taken.items place.ledger taken.changes [] old.host new.host
   pub disk : new.host.faults ≡ old.host.faults
   pub logs : Logs (turn_lines (rules_by policy) place Told taken) old.output new.output
   pub rests : AtRest policy.conf.now new (after_turn place taken)
 
--- The disk failed in the turn, which is cut there: the trace and the log have what was served before. The change of the call that
--- failed is the next of the planned ones.
+-- The disk failed in the turn, which is cut there: the trace and the log have what was served before. The changes of the call that
+-- failed are the next of the planned ones.
 pub record FailsAtDisk (policy : Policy) (place : Place) (turn : FeedTurn) (old new : Scene) : Type 0 where
   pub taken : TakenTurn
   pub of_turn : taken.turn ≡ turn
   pub cut : CutTurn (rules_by policy) place taken
-  pub next : Change
+  -- what was made before does not end with a Floor
+  pub whole : ends_with_floor taken.changes ≡ false
+  pub failing : List Change
+  pub one : AreOneCall failing
   pub later : List Change
-  pub planned : taken.changes ++ next ∷ later ≡ planned_turn (rules_by policy) place taken
-  -- with it, too, the turn is cut
-  pub meant : CutTurn (rules_by policy) place (record taken { changes = taken.changes ++ next ∷ [] })
+  pub planned : taken.changes ++ failing ++ later ≡ planned_turn (rules_by policy) place taken
+  -- with them, too, the turn is cut
+  pub meant : CutTurn (rules_by policy) place (record taken { changes = taken.changes ++ failing })
   -- the host still numbers its children by rising numbers
   pub numbered : AllPairs (λ a b. a.number < b.number) (children (past_after place.past taken.items))
-  pub adds : Adds taken.items place.ledger (taken.changes ++ next ∷ []) false old.host new.host
+  pub adds : Adds taken.items place.ledger taken.changes failing old.host new.host
   pub disk : new.host.faults ≡ counted old.host.faults
   pub logs : Logs (turn_lines (rules_by policy) place Untold taken) old.output new.output
   pub book : new.daemon.book.changes ≡ after place.ledger taken.changes
@@ -76,13 +79,15 @@ pub record WantsMemory (policy : Policy) (place : Place) (turn : FeedTurn) (old 
   pub taken : TakenTurn
   pub of_turn : taken.turn ≡ turn
   pub cut : CutTurn (rules_by policy) place taken
-  pub wants : WantsMemoryAt policy place taken (λ more. MakesCalls (calls_for taken.items taken.changes + more) old.host new.host)
+  pub wants : WantsMemoryAt policy place taken (λ more. MakesCalls (calls_for taken.items place.ledger taken.changes + more) old.host new.host)
+  -- what was made does not end with a Floor
+  pub whole : ends_with_floor taken.changes ≡ false
   pub settled : map Done (dones taken.changes) ≡ settlements place.past taken.items
   -- the turn began with the next call of the host
   pub begun : IfTold old.host.told new.host.told (λ before later. BeginsAt (before.moments + 1) taken.items)
   -- the host still numbers its children by rising numbers
   pub numbered : AllPairs (λ a b. a.number < b.number) (children (past_after place.past taken.items))
-  pub adds : Adds taken.items place.ledger taken.changes true old.host new.host
+  pub adds : Adds taken.items place.ledger taken.changes [] old.host new.host
   pub disk : new.host.faults ≡ old.host.faults
   pub told : RefusalLine
   pub may : MayTellAt AtWantOfMemory taken.items told

@@ -15,7 +15,7 @@ kept ids front all new r is same so_far step = same ∙ so_far ∙ sym (append-n
 
 pub loop-change-preserved : goal.loop-change-preserved
 loop-change-preserved c =
-    let step = ids_step c.args.changes.now c.loop-change.change-index c.change-item.result c.loop-change-test.true c.change-item.is ∙ ap (λ more. ids_of c.args.changes.now (opens (take c.loop-change.change-index c.args.changes.now)) ++ more) (sym c.live_id.ensures) in
+    let step = ids_step c.args.changes.now c.loop-change.change-index c.change-item.result c.loop-change-test.true c.change-item.is ∙ ap (λ more. ids_of c.args.changes.now (opens (take c.loop-change.change-index c.args.changes.now)) ++ more) (sym (c.live_id.ensures c.args.changes.now c.requires)) in
     elim c.match-live_id.branch [
       | in-Some+in_ok-push w ↦ pushed _ _ _ _ _ _ w.in-Some.is (ap (λ (v : Vec ℕ Global). v.items) w.ids-is ∙ w.in_ok-push.ensures.items) c.loop-change.invariant step
       | in_default w ↦ kept _ _ _ _ _ w.in_default.is (ap (λ (v : Vec ℕ Global). v.items) w.ids-is) c.loop-change.invariant step

@@ -1,13 +1,14 @@
 use Rattle.std.proofs.Common.{◌≡◌, ◌+◌, ◌≤◌, length, List, ap, sym, subst, ◌∙◌, arith, vec_capacity}
 use Rattle.std.proofs.lemmas.Result.{err_from_is_err_and}
 use Rattle.fk_journal.specs.Entries.{contents_of, place_behind, HoldsEntries}
-use Rattle.fk_journal.specs.Keeps.{selected}
+use Rattle.fk_journal.specs.Keeps.{Keeps, selected}
 use Rattle.fk_host.specs.Disk.{IfTold}
 use Rattle.fk_trace.specs.Ledger.{next_id, floor_of}
+use Rattle.fk_ledger.specs.declared.ledger.Ledger.TheInside.{Inside}
 use Rattle.fk_ledger.specs.Book.{live_ids}
 use Rattle.fk_ledger.proofs.RoomLaws.{order_found}
 use Rattle.fk_journal.specs.declared.entry.Entry.{Entry}
-use Rattle.fk_ledger.proofs.OpeningLaws.{failed_opening, whole_opening, same_error, area_damaged, entry_damaged}
+use Rattle.fk_ledger.proofs.OpeningLaws.{held_of, kept_of, failed_opening, whole_opening, same_error, area_damaged, entry_damaged}
 use Rattle.fk_ledger.proofs.ledger.Ledger.open.Goals as goal
 
 pub returns-in_err-journal-clause-damaged : goal.returns-in_err-journal-clause-damaged
@@ -54,11 +55,32 @@ invariant_of-ledger g c =
     let fits : length c.in_ok-changes.changes.items + length c.in_ok-ids.ids.items ≤ vec_capacity c.reserve.new.self = omega arith in
     let again = c.len-2.ensures in
     let lives : c.len-2.result ≡ length c.in_ok-ids.ids.items = omega arith in
-    order_found c.in_ok-journal.journal c.reserve.new.self c.args.live c.len-2.result c.next_id-next.result c.floor_of-floor.result c.new.result c.in_ok-changes.changes.items c.in_ok-ids.ids.items (contents_of c.deref.result.now) c.in_ok-changes.ensures.held
-    (c.in_ok-journal.ensures.keeps.behind ∙ ap (λ (es : List Entry). place_behind (contents_of es)) (sym c.deref.ensures.value)) c.in_ok-journal.ensures.fresh.2 c.in_ok-reserve.ensures.items
-    (c.in_ok-ids.ensures ∙ ap live_ids c.deref-2.ensures.value) lives fits (c.next_id-next.ensures ∙ ap next_id c.deref-3.ensures.value) (c.floor_of-floor.ensures ∙ ap floor_of c.deref-4.ensures.value)
+    let like : Inside = record {
+      journal = c.in_ok-journal.journal;
+      changes = c.reserve.new.self;
+      index = c.in_ok-changes.outline.digests;
+      live = c.len-2.result;
+      next = c.in_ok-changes.outline.next;
+      floor = c.floor_of-floor.result;
+      limit = c.args.live;
+      keep = c.args.keep;
+      payload = c.new.result;
+    } in
+    order_found c.in_ok-journal.journal c.reserve.new.self like c.args.live c.args.keep c.len-2.result c.in_ok-changes.outline.next c.floor_of-floor.result c.new.result c.in_ok-changes.changes.items c.in_ok-ids.ids.items (contents_of c.deref.result.now) c.in_ok-changes.ensures.held
+    (c.in_ok-journal.ensures.keeps.behind ∙ ap (λ (es : List Entry). place_behind (contents_of es)) (sym c.deref.ensures.value)) c.in_ok-journal.ensures.fresh.2 c.in_ok-journal.ensures.fresh.3 c.in_ok-reserve.ensures.items
+    (c.in_ok-ids.ensures ∙ ap live_ids c.deref-2.ensures.value) lives fits c.in_ok-changes.ensures.outline.next (c.floor_of-floor.ensures ∙ ap floor_of c.deref-3.ensures.value) c.in_ok-changes.ensures.outline.digests
 
 pub returns-clause-moments : goal.returns-clause-moments
 returns-clause-moments g c = λ ledger.
     whole_opening ledger (contents_of c.in_ok-journal.entries.items) c.in_ok-journal.journal (g.D.Disk.told c.args.disk.now) (g.D.Disk.told c.open.new.disk) (g.D.Disk.may_leave c.args.disk.now) (g.D.Disk.may_leave c.open.new.disk)
     c.in_ok-journal.ensures.moments c.in_ok-journal.ensures.held c.in_ok-journal.ensures.keeps
+
+pub returns-clause-held : goal.returns-clause-held
+returns-clause-held g c =
+    held_of (contents_of c.deref.result.now) c.in_ok-changes.changes.items c.reserve.new.self.items (g.D.Disk.told c.args.disk.now) (g.D.Disk.told c.open.new.disk) c.in_ok-changes.ensures.held c.in_ok-reserve.ensures.items
+    (subst (λ (es : List Entry). IfTold (g.D.Disk.told c.args.disk.now) (g.D.Disk.told c.open.new.disk) (λ x y. HoldsEntries (selected x.areas) (contents_of es))) (sym c.deref.ensures.value) c.in_ok-journal.ensures.held)
+
+pub returns-clause-keeps : goal.returns-clause-keeps
+returns-clause-keeps g c =
+    kept_of (contents_of c.deref.result.now) c.in_ok-changes.changes.items c.reserve.new.self.items c.in_ok-journal.journal (g.D.Disk.told c.open.new.disk) (g.D.Disk.may_leave c.open.new.disk) c.in_ok-changes.ensures.held c.in_ok-reserve.ensures.items
+    (subst (λ (es : List Entry). Keeps c.in_ok-journal.journal (contents_of es) (g.D.Disk.told c.open.new.disk) (g.D.Disk.may_leave c.open.new.disk)) (sym c.deref.ensures.value) c.in_ok-journal.ensures.keeps)

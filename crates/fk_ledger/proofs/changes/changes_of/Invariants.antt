@@ -1,8 +1,0 @@
-use Rattle.std.proofs.Common.{take}
-use Rattle.fk_journal.specs.Entries.{contents_of}
-use Rattle.fk_ledger.specs.Private.{AreLedger}
-use Rattle.fk_ledger.proofs.RoomLaws.{IsCounted}
-use Rattle.fk_ledger.proofs.changes.changes_of.Given as goal
-
-abbrev pub invariant-loop-entry : goal.invariant-loop-entry
-invariant-loop-entry l = AreLedger (contents_of (take l.entry-index l.entries)) l.changes.items × IsCounted l.changes.items
