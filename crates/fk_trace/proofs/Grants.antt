@@ -119,10 +119,15 @@ pub making-made : (room : Room) (moment : ℕ) (ledger : List Change) (item : Op
     → AreFor room moment ledger item changes
 making-made room moment ledger item changes e =
     let change : Change = OpenChange item in
+    let first : Change = rise_at room moment ledger in
+    let anew : Option (List Change) = cond (room.fits (after ledger (first ∷ change ∷ []))) (Some (first ∷ change ∷ [])) None in
     (elim (has_place room ledger change) as (λ (b : Bool). cond b (making_placed room moment ledger change) None ≡ Some changes → AreFor room moment ledger item changes) [
-      | true ↦ elim (room.fits (after ledger (change ∷ []))) as (λ (c : Bool). cond c (Some (change ∷ [])) None ≡ Some changes → AreFor room moment ledger item changes) [
+      | true ↦ elim (room.fits (after ledger (change ∷ []))) as (λ (c : Bool). cond c (Some (change ∷ [])) anew ≡ Some changes → AreFor room moment ledger item changes) [
         | true ↦ λ f. inl cc
-        | false ↦ λ f. absurd cc
+        | false ↦ elim (room.fits (after ledger (first ∷ change ∷ []))) as (λ (d : Bool). cond d (Some (first ∷ change ∷ [])) None ≡ Some changes → AreFor room moment ledger item changes) [
+          | true ↦ λ f. inr cc
+          | false ↦ λ f. absurd cc
+        ]
       ]
       | false ↦ λ f. absurd cc
     ]) e

@@ -80,10 +80,15 @@ floor_at keep moment ledger = max (floor_of ledger) (moment - keep)
 abbrev pub rise_at : Room → ℕ → List Change → Change
 rise_at room moment ledger = rise (floor_at room.keep moment ledger) ledger
 
--- What is made at a moment so that the ledger has this change, which has its place: the change alone where the ledger then fits, and
--- nothing where it doesn't.
+-- What is made at a moment so that the ledger has this change, which has its place: the change alone where the ledger then fits, else
+-- first the Floor with which the ledger begins anew, where it then fits, and else nothing.
 abbrev pub making_placed : Room → ℕ → List Change → Change → Option (List Change)
-making_placed room moment ledger change = if room.fits (after ledger (change ∷ [])) then Some (change ∷ []) else None
+making_placed room moment ledger change =
+    if room.fits (after ledger (change ∷ []))
+    then Some (change ∷ [])
+    else (if room.fits (after ledger (rise_at room moment ledger ∷ change ∷ []))
+    then Some (rise_at room moment ledger ∷ change ∷ [])
+    else None)
 
 abbrev pub making : Room → ℕ → List Change → Change → Option (List Change)
 making room moment ledger change = if has_place room ledger change then making_placed room moment ledger change else None
