@@ -11,3 +11,6 @@ pub mod LedgerLaws
 pub mod StretchLaws
 mod IndexLaws
 mod OutlineLaws
+mod AnewLaws
+mod CopyLaws
+mod CompactionLaws

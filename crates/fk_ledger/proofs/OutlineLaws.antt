@@ -1,13 +1,13 @@
 -- What an outline says once a change stands behind the others.
 use Rattle.std.proofs.Common.{◌≡◌, ℕ, ◌+◌, nat_eq, Bool, true, false, ◌||◌, List, [], ◌∷◌, ◌++◌, refl, ap, sym, ◌∙◌, arith}
-use Rattle.std.specs.Prelude.{max, nat_le, nat_lt, ◌&&◌, ◌==◌, not, IsTrue, is_some, None}
+use Rattle.std.specs.Prelude.{max, nat_le, nat_lt, ◌&&◌, ◌==◌, not, IsTrue, is_some}
 use Rattle.std.specs.List.{list_any, list_all, find}
 use Rattle.std.specs.HashSet.{contains}
 use Rattle.std.proofs.lemmas.Bool.Decides.{nat_tests}
 use Rattle.std.proofs.lemmas.List.Folds.{list_any-append, list_all-append}
 use Rattle.fk_trace.specs.declared.change.Change.{Change}
 use Rattle.fk_trace.specs.declared.change.Change.TheVariants.{Open, Done, Settled, Floor}
-use Rattle.fk_trace.specs.Ledger.{next_by, next_id, opens, live, MayFollow}
+use Rattle.fk_trace.specs.Ledger.{next_by, opens, live, MayFollow}
 use Rattle.fk_trace.specs.declared.change.OpenRecord.{OpenRecord}
 use Rattle.fk_trace.proofs.Lists.{list_any-find}
 use Rattle.fk_trace.proofs.Ledgers.{next_id-push}

@@ -44,6 +44,20 @@ pub stretches_join : (s t u : Option Told) (ledger a b : List Change) (whole : B
 stretches_join s t u ledger a b whole p q r first second =
     if_told_then s t u (Stretch ledger a true p q) (Stretch (after ledger a) b whole q r) (Stretch ledger (a ++ b) whole p r) (λ x y z one two. stretch_then ledger a b whole p q r x y z one two) first second
 
+-- calls that fail within the first of some changes
+longer_told : (ledger a b : List Change) (p q : ℕ → Areas → Type 0) (x y : Told) → Stretch ledger a false p q x y → Stretch ledger (a ++ b) false p q x y
+longer_told ledger a b p q x y stretch = record {
+  later = stretch.later;
+  past = stretch.past;
+  each = λ k image behind upto left.
+      let s = stretch.each k image behind upto left in
+      (min s.0 (length a), subst (λ (more : List Change). HoldsState (after ledger more) image) (sym (take-within s.0 a b)) s.1);
+  all = λ no. absurd (let n : false ≡ true = no in cc);
+}
+
+pub stretch_longer : (ledger a b : List Change) (s t : Option Told) (p q : ℕ → Areas → Type 0) → IfTold s t (Stretch ledger a false p q) → IfTold s t (Stretch ledger (a ++ b) false p q)
+stretch_longer ledger a b s t p q stretch = if_told_map s t (Stretch ledger a false p q) (Stretch ledger (a ++ b) false p q) (longer_told ledger a b p q) stretch
+
 -- ---- the stretch of an append
 
 -- a ledger that is held is one with its State
@@ -105,7 +119,7 @@ kept-push ledger change log s t old new keeps one may now = record {
 }
 
 -- each image of a disk that keeps these entries holds them
-settled_holds : (contents : List Content) (y : Told) (new : ℕ → Areas → Type 0) → IsClosedBehind contents (selected y.areas) → IsSettled y new → (image : Areas) → new y.moments image → HoldsEntries (selected image) contents
+pub settled_holds : (contents : List Content) (y : Told) (new : ℕ → Areas → Type 0) → IsClosedBehind contents (selected y.areas) → IsSettled y new → (image : Areas) → new y.moments image → HoldsEntries (selected image) contents
 settled_holds contents y new closed settled image left = inr (subst (IsClosedBehind contents) (sym (settled image left).1) closed)
 
 -- an append that ended well

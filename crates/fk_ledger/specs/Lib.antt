@@ -5,3 +5,4 @@ pub mod Book
 pub mod Private
 pub mod Reading
 pub mod Index
+pub mod Anew

@@ -6,15 +6,21 @@ use Rattle.fk_trace.specs.declared.change.OpenRecord.{OpenRecord}
 use Rattle.fk_trace.specs.declared.change.Change.{Change}
 use Rattle.fk_trace.specs.declared.change.Change.TheVariants.{Open, Done, Settled, Floor}
 use Rattle.std.specs.Cmp.Lexicographic.{pointwise}
-use Rattle.fk_trace.specs.Ledger.{live, is_seen, next_id, floor_of, IsLedger}
-use Rattle.std.specs.HashSet.{contains, spare}
+use Rattle.fk_trace.specs.Ledger.{is_seen, next_id, floor_of, IsLedger}
+use Rattle.std.specs.HashSet.{contains, hash_set_len, spare}
 use Rattle.fk_journal.specs.Entries.{Content, place_behind}
 use Rattle.fk_ledger.specs.declared.ledger.Ledger.TheInside.{Inside}
-use Rattle.fk_ledger.specs.Book.{Book, used}
+use Rattle.fk_ledger.specs.Book.{Book, live_ids, used}
 use Rattle.fk_ledger.specs.Payloads.{ledger_contents, IsChange}
 use Rattle.fk_ledger.specs.Holds.{IsBroken}
 
--- A further record needs room for itself and for its Done, beside that for the Done of each live record.
+-- there is room in memory for so many changes and digests
+abbrev pub has_slots : Inside → Bool
+has_slots ledger =
+    nat_le (length ledger.changes.items + length ledger.live.items + 3) (vec_capacity ledger.changes)
+    && (nat_le (length ledger.changes.items + length ledger.live.items + 2) (hash_set_len ledger.index + spare ledger.index) && nat_lt 0 (spare ledger.index))
+
+-- A further record needs room for itself and for its Done, beside that for the Done of each live record, and for a Floor.
 abbrev pub book_of : Inside → Book
 book_of ledger = record {
   changes = ledger.changes.items;
@@ -22,19 +28,21 @@ book_of ledger = record {
   keep = ledger.keep;
   area = ledger.journal.area;
   room = ledger.journal.limit;
-  reserved = if nat_le (length ledger.changes.items + ledger.live + 2) (vec_capacity ledger.changes) && nat_lt 0 (spare ledger.index) then min (vec_capacity ledger.payload) ledger.journal.reserved else 0;
+  reserved = if has_slots ledger then min (vec_capacity ledger.payload) ledger.journal.reserved else 0;
   is_spent = ledger.journal.is_spent;
 }
 
--- the journal, the count, the next number and the floor are those of the changes, and there is room for the Done of each live record
+-- The journal, the numbers of the live records, the next number and the floor are those of the changes. There is room for the Done of each
+-- live record, for the numbers of as many as may be live, and for the payload of each.
 pub record IsInOrder (ledger : Inside) : Type 0 where
-  pub live : ledger.live ≡ length (live ledger.changes.items)
+  pub live : ledger.live.items ≡ live_ids ledger.changes.items
   pub next : ledger.next ≡ next_id ledger.changes.items
   pub floor : ledger.floor ≡ floor_of ledger.changes.items
-  pub used : used ledger.changes.items ≡ ledger.journal.end + 1
-  pub room : length ledger.changes.items + ledger.live ≤ vec_capacity ledger.changes
-  pub reserved : 8 ≤ ledger.journal.reserved
-  pub idle : ledger.journal.is_copying ≡ false
+  pub used : ledger.journal.is_spent ≡ false → used ledger.changes.items ≡ ledger.journal.end + 1
+  pub idle : ledger.journal.is_spent ≡ false → ledger.journal.is_copying ≡ false
+  pub room : length ledger.changes.items + length ledger.live.items ≤ vec_capacity ledger.changes
+  pub numbers : ledger.limit ≤ vec_capacity ledger.live
+  pub reserved : (12136 ≤ ledger.journal.reserved) × (12136 ≤ vec_capacity ledger.payload)
   pub index : (digest : List ℕ) → contains (pointwise nat_eq) ledger.index digest ≡ is_seen digest ledger.changes.items
 
 -- the entries are those of a ledger

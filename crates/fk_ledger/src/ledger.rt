@@ -1,24 +1,27 @@
-ghost use Rattle.std.specs.Prelude.{◌≡◌, ◌↔◌, ℕ, ◌+◌, ◌==◌, ◌<◌, ◌≤◌, List, [], ◌∷◌, true, false, None, Some, is_ok, length, IfErr, IfOk, IfSome, IsErrOf, OnErr, OnOk};
-ghost use Rattle.std.specs.List.{find, Contains};
+ghost use Rattle.std.specs.Prelude.{◌≡◌, ◌↔◌, ℕ, max, ◌+◌, ◌-◌, ◌^◌, ◌==◌, ◌<◌, ◌≤◌, List, [], ◌∷◌, true, false, None, is_ok, length, IfErr, IfOk, IfSome, IsErrOf, OnOk, vec_capacity};
+ghost use Rattle.std.specs.List.{find, AllByRecursion, Contains};
 ghost use Rattle.std.specs.List.Sorted.{IsPermutation};
-ghost use Rattle.std.specs.Option.{option_copied};
+ghost use Rattle.std.specs.Option.{option_copied, option_map};
 ghost use Rattle.fk_base.specs.CommandWords.{AreCommandWords};
 ghost use Rattle.fk_host.specs.Count.{HasCauseBy};
 ghost use Rattle.fk_host.specs.Disk.{IfTold, LeavesAreas, LeavesHost};
 ghost use Rattle.fk_trace.specs.declared.change.Change.{Change};
-ghost use Rattle.fk_trace.specs.declared.change.Change.TheVariants.{Open, Done};
+ghost use Rattle.fk_trace.specs.declared.change.Change.TheVariants.{Open, Done, Floor};
 ghost use Rattle.fk_trace.specs.Ledger.{after, live, AreNoFloors, is_seen, floor_of, next_id, MayMake, IsLedger};
 ghost use Rattle.fk_journal.specs.Entries.{area_bytes};
 ghost use Rattle.fk_journal.specs.Keeps.{selected, StandsOn, IsOpening, LeavesOthers, is_disk_fault};
 ghost use Rattle.fk_ledger.specs.Book.{making_record, calls_of, live_ids, is_disk_record_fault};
 ghost use Rattle.fk_ledger.specs.Holds.{HoldsLedger, IsLedgerDamagedAt, KeepsLedger};
-ghost use Rattle.fk_ledger.specs.Payloads.{greatest_stamp, record_bytes};
+ghost use Rattle.fk_ledger.specs.Payloads.{greatest_stamp, record_bytes, IsChange};
+ghost use Rattle.fk_ledger.specs.Anew.{made_by};
 ghost use Rattle.fk_ledger.specs.Stretch.{StretchOf, IsLedgerOpening};
 
+use crate::anew::{Way, begin_anew, room_left};
 use crate::changes::{
     changes_of, floor_of, live_ids, live_record, outlined_changes_of, owed_of, spend_all,
 };
-use crate::index::{Index, add, holds, widen};
+use crate::compaction::compact;
+use crate::index::{Index, add, holds, index_anew, widen};
 use crate::outline::Outline;
 use crate::writing::{record_len, write_record};
 use crate::{LedgerErr, Owed, RecordFault};
@@ -33,6 +36,12 @@ use std::marker::Model;
 /// The number of each record is below it.
 const NUMBERS_END: u64 = 9_223_372_036_854_775_808;
 
+/// How many bytes the payload of a record has at most.
+const LONGEST: usize = 12_136;
+
+/// How many bytes a journal has that begins anew, before what stays: the format byte, its Floor, and the closing gate.
+const BEGUN: u64 = 1 + 22 + 1;
+
 /// A ledger on a journal of the disk, which nobody else writes.
 #[derive(Drop)]
 pub struct Ledger {
@@ -41,7 +50,8 @@ pub struct Ledger {
     changes: Vec<Change>,
     // their digests, with room for one more where a record is reserved
     index: Index,
-    live: usize,
+    // the numbers of the live records, rising, with room for as many as may be live
+    live: Vec<u64>,
     next: u64,
     floor: u64,
     limit: u32,
@@ -92,9 +102,9 @@ impl Ledger {
         ensures host { LeavesHost D.told D.above disk.old disk.new }
         ensures cause { HasCauseBy is_disk_fault (D.faults disk.old) (D.faults disk.new) result }
     {
-        let (journal, entries) = Journal::open(alloc, disk, room)?;
+        let (mut journal, entries) = Journal::open(alloc, disk, room)?;
         let (mut changes, outline) = outlined_changes_of(alloc, &entries)?;
-        let ids = live_ids(alloc, &changes, &outline)?;
+        let mut ids = live_ids(alloc, &changes, &outline)?;
         let Outline {
             next,
             above: _,
@@ -103,18 +113,18 @@ impl Ledger {
             closed: _closed,
         } = outline;
         let floor = floor_of(&changes);
-        changes.reserve(ids.len())?;
+        let payload = make_ready(alloc, &mut journal, &mut changes, &mut ids, live)?;
         let owed = owed_of(alloc, &ids)?;
         let ledger = Ledger {
             journal,
             changes,
             index,
-            live: ids.len(),
+            live: ids,
             next,
             floor,
             limit: live,
             keep,
-            payload: Vec::new(alloc),
+            payload,
         };
         Ok((ledger, owed))
     }
@@ -158,7 +168,7 @@ impl Ledger {
     pub fn live(&self) -> usize
         ensures { result ≡ length (live self.now.changes) }
     {
-        self.live
+        self.live.len()
     }
 
     /// The live record of this number.
@@ -186,8 +196,10 @@ impl Ledger {
         self.payload.clear();
         self.payload.reserve(len)?;
         self.journal.reserve(len)?;
-        self.changes.reserve(self.live + 2)?;
-        widen(&mut self.index, 1)?;
+        let slots = self.live.len() + 3;
+        self.changes.reserve(slots)?;
+        let digests = (self.changes.len() + slots).saturating_sub(self.index.len());
+        widen(&mut self.index, digests.max(1))?;
         Ok(())
     }
 
@@ -218,18 +230,110 @@ impl Ledger {
         ensures host { LeavesHost D.told D.above disk.old disk.new }
         ensures cause { HasCauseBy is_disk_record_fault (D.faults disk.old) (D.faults disk.new) result }
     {
-        if !self.has_room(&item) {
-            return Err(RecordFault::Full);
+        match self.way(&item) {
+            Some(Way::Behind) => self.record_behind(disk, item),
+            Some(Way::Anew(floor)) => self.record_anew(disk, item, floor),
+            None => Err(RecordFault::Full),
+        }
+    }
+
+    /// Records it behind the others.
+    fn record_behind<D: Disk>(
+        &mut self,
+        disk: &mut D,
+        item: OpenRecord,
+    ) -> Result<Owed, RecordFault>
+        requires unspent { self.old.is_spent ≡ false }
+        requires next { MayMake self.old.changes (Open item) }
+        requires stamp { item.stamp ≤ greatest_stamp }
+        requires words { AreCommandWords item.close }
+        requires reserved { length (record_bytes item) ≤ self.old.reserved }
+        requires few { (length (live self.old.changes) < self.old.limit) × (next_id self.old.changes < 2 ^ 63) }
+        requires keeps { KeepsLedger self.old.changes (D.told disk.old) (D.may_leave disk.old) }
+        requires stands { StandsOn self.old.area (D.told disk.old) }
+        ensures fits { IsErrOf result RecordFault.Full → ⊥ }
+        ensures ok { OnOk result (self.new ≡ record self.old { changes = after self.old.changes (Open item ∷ []); reserved = self.new.reserved }) }
+        ensures owed { IfOk result (λ owed. owed ≡ item.id) }
+        ensures spent { IsErrOf result RecordFault.Disk → self.new ≡ record self.old { is_spent = true } }
+        ensures keeps { OnOk result (KeepsLedger self.new.changes (D.told disk.new) (D.may_leave disk.new)) }
+        ensures stands { OnOk result (StandsOn self.new.area (D.told disk.new)) }
+        ensures moments { StretchOf D.Disk disk.old disk.new self.old.changes (Open item ∷ []) (is_ok result) }
+        ensures others { IfTold (D.told disk.old) (D.told disk.new) (LeavesOthers (D.may_leave disk.old) (D.may_leave disk.new)) }
+        ensures calls { OnOk result (IfTold (D.told disk.old) (D.told disk.new) (λ before after. after.moments ≡ before.moments + 4)) }
+        ensures host { LeavesHost D.told D.above disk.old disk.new }
+        ensures cause { HasCauseBy is_disk_record_fault (D.faults disk.old) (D.faults disk.new) result }
+    {
+        write_record(&mut self.payload, &item);
+        match self.journal.append(disk, 1, &self.payload) {
+            Ok(()) => {
+                let owed = Owed::new(item.id);
+                self.live.push_reserved(item.id);
+                self.next = item.id + 1;
+                let change = Change::Open(item);
+                add(&mut self.index, &change);
+                self.changes.push_reserved(change);
+                Ok(owed)
+            }
+            Err(Failed) => Err(RecordFault::Disk),
+        }
+    }
+
+    /// Records it in a journal that begins anew with this floor. Memory follows when all of it is on the disk.
+    fn record_anew<D: Disk>(
+        &mut self,
+        disk: &mut D,
+        item: OpenRecord,
+        floor: u64,
+    ) -> Result<Owed, RecordFault>
+        requires unspent { self.old.is_spent ≡ false }
+        requires next { MayMake self.old.changes (Open item) }
+        requires stamp { item.stamp ≤ greatest_stamp }
+        requires words { AreCommandWords item.close }
+        requires reserved { length (record_bytes item) ≤ self.old.reserved }
+        requires few { (length (live self.old.changes) < self.old.limit) × (next_id self.old.changes < 2 ^ 63) }
+        requires keeps { KeepsLedger self.old.changes (D.told disk.old) (D.may_leave disk.old) }
+        requires stands { StandsOn self.old.area (D.told disk.old) }
+        ensures fits { IsErrOf result RecordFault.Full → ⊥ }
+        ensures ok { OnOk result (self.new ≡ record self.old {
+          changes = after self.old.changes (Floor floor (next_id self.old.changes) ∷ Open item ∷ []);
+          area = self.new.area;
+          reserved = self.new.reserved;
+        }) }
+        ensures owed { IfOk result (λ owed. owed ≡ item.id) }
+        ensures spent { IsErrOf result RecordFault.Disk → self.new ≡ record self.old { area = self.new.area; is_spent = true } }
+        ensures keeps { OnOk result (KeepsLedger self.new.changes (D.told disk.new) (D.may_leave disk.new)) }
+        ensures stands { OnOk result (StandsOn self.new.area (D.told disk.new)) }
+        ensures moments { StretchOf D.Disk disk.old disk.new self.old.changes (Floor floor (next_id self.old.changes) ∷ Open item ∷ []) (is_ok result) }
+        ensures calls { OnOk result (IfTold (D.told disk.old) (D.told disk.new) (λ before after.
+            after.moments ≡ before.moments + calls_of self.old.changes (Floor floor (next_id self.old.changes) ∷ Open item ∷ []))) }
+        ensures host { LeavesHost D.told D.above disk.old disk.new }
+        ensures cause { HasCauseBy is_disk_record_fault (D.faults disk.old) (D.faults disk.new) result }
+    {
+        let begun = compact(
+            &mut self.journal,
+            disk,
+            &mut self.payload,
+            &self.changes,
+            &self.live,
+            floor,
+            self.next,
+        );
+        match begun {
+            Ok(()) => (),
+            Err(Failed) => return Err(RecordFault::Disk),
         }
         write_record(&mut self.payload, &item);
         match self.journal.append(disk, 1, &self.payload) {
             Ok(()) => {
                 let owed = Owed::new(item.id);
+                begin_anew(&mut self.changes, &self.live, floor, self.next);
+                index_anew(&mut self.index, &self.changes);
+                self.floor = floor;
+                self.live.push_reserved(item.id);
                 self.next = item.id + 1;
                 let change = Change::Open(item);
                 add(&mut self.index, &change);
                 self.changes.push_reserved(change);
-                self.live += 1;
                 Ok(owed)
             }
             Err(Failed) => Err(RecordFault::Disk),
@@ -264,7 +368,7 @@ impl Ledger {
             Ok(()) => {
                 owed.spend();
                 self.changes.push_reserved(Change::Done(id));
-                self.live -= 1;
+                self.live.retain(|live| *live != id);
                 Ok(())
             }
             Err(Failed) => Err((owed, Failed)),
@@ -278,16 +382,60 @@ impl Ledger {
         spend_all(owed);
     }
 
-    fn has_room(&self, item: &OpenRecord) -> bool
+    /// How the record comes into the journal, if there is room for it. Where it does not fit behind the others, this walks the ledger.
+    fn way(&self, item: &OpenRecord) -> Option<Way>
         requires words { AreCommandWords item.now.close }
         requires next { MayMake self.now.changes (Open item.now) }
+        requires each { AllByRecursion IsChange self.now.changes }
         requires follow { IsLedger self.now.changes }
-        ensures { (result ≡ false → making_record self.now item.now ≡ None)
-            × (result ≡ true → making_record self.now item.now ≡ Some (Open item.now ∷ [])) }
+        requires unspent { self.now.is_spent ≡ false }
+        ensures made { making_record self.now item.now ≡ option_map (made_by (next_id self.now.changes) item.now) result }
+        ensures few { IfSome result (λ way. (length (live self.now.changes) < self.now.limit) × (next_id self.now.changes < 2 ^ 63)) }
     {
-        let live = self.live as u64;
-        live < u64::from(self.limit)
-            && self.next < NUMBERS_END
-            && 6 + record_len(item) as u64 + 14 * (live + 1) <= self.journal.room()
+        let live = self.live.len() as u64;
+        if live >= u64::from(self.limit) || self.next >= NUMBERS_END {
+            return None;
+        }
+        let more = 6 + record_len(item) as u64 + 14 * (live + 1);
+        if more <= self.journal.room() {
+            return Some(Way::Behind);
+        }
+        let floor = floor_at(self.keep, item.moment.get(), self.floor);
+        let left = room_left(&self.changes, &self.live, floor, self.journal.limit())?;
+        if BEGUN + more <= left {
+            Some(Way::Anew(floor))
+        } else {
+            None
+        }
     }
+}
+
+/// The floor with which a ledger begins anew at a moment.
+fn floor_at(keep: u32, moment: u64, floor: u64) -> u64
+    ensures { result ≡ max floor (moment - keep) }
+{
+    floor.max(moment.saturating_sub(u64::from(keep)))
+}
+
+/// Makes room in memory for as much as a ledger takes of which so many records may be live, and for the longest payload.
+fn make_ready(
+    alloc: Global,
+    journal: &mut Journal,
+    changes: &mut Vec<Change>,
+    ids: &mut Vec<u64>,
+    live: u32,
+) -> Result<Vec<u8>, NoMemory>
+    ensures payload { IfOk result (λ payload. 12136 ≤ vec_capacity payload) }
+    ensures journal { OnOk result (12136 ≤ journal.new.reserved) }
+    ensures changes { OnOk result (length changes.new.items + length ids.new.items ≤ vec_capacity changes.new) }
+    ensures ids { OnOk result (live ≤ vec_capacity ids.new) }
+    ensures same { (changes.new.items ≡ changes.old.items) × (ids.new.items ≡ ids.old.items) }
+    ensures log { journal.new ≡ record journal.old { reserved = journal.new.reserved } }
+{
+    journal.reserve(LONGEST)?;
+    changes.reserve(ids.len())?;
+    ids.reserve(live as usize)?;
+    let mut payload = Vec::new(alloc);
+    payload.reserve(LONGEST)?;
+    Ok(payload)
 }

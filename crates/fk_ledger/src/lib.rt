@@ -7,7 +7,9 @@
 //! any moment of a call may leave.
 #![tactic(auto)]
 
+mod anew;
 mod changes;
+mod compaction;
 mod fault;
 mod index;
 mod laws;

@@ -2,9 +2,9 @@
 ghost use Rattle.std.specs.Prelude.{◌≡◌, ◌+◌, ◌≤◌, ◌++◌, length, vec_capacity};
 ghost use Rattle.fk_base.specs.Bytes.{HasBytes, IsBytes};
 ghost use Rattle.fk_base.specs.CommandWords.{AreCommandWords};
-ghost use Rattle.fk_ledger.specs.Payloads.{greatest_stamp, proto_number, record_bytes, IsRecord, words_bytes, word_bytes};
+ghost use Rattle.fk_ledger.specs.Payloads.{floor_bytes, greatest_stamp, proto_number, record_bytes, settled_bytes, IsRecord, words_bytes, word_bytes};
 
-use fk_base::{Proto, Words};
+use fk_base::{Digest, Proto, Words};
 use fk_trace::OpenRecord;
 
 /// How many bytes a record's numbers take: its own, the stamp, the moment, the due, the address, the protocol, the port, and how many words
@@ -59,6 +59,31 @@ pub(crate) fn write_record(buffer: &mut Vec<u8>, item: &OpenRecord)
     buffer.push_reserved(proto_number(item.pair.proto));
     push_all(buffer, &item.pair.port.to_be_bytes());
     push_words(buffer, &item.close);
+}
+
+/// Writes the payload of a Settled into the buffer, which is emptied before.
+pub(crate) fn write_settled(buffer: &mut Vec<u8>, id: u64, stamp: u64, digest: &Digest)
+    requires room { 48 ≤ vec_capacity buffer.old }
+    ensures bytes { buffer.new.items ≡ settled_bytes id stamp digest.now }
+    ensures len { length buffer.new.items ≡ 48 }
+    ensures capacity { vec_capacity buffer.new ≡ vec_capacity buffer.old }
+{
+    buffer.clear();
+    push_all(buffer, &id.to_be_bytes());
+    push_all(buffer, &stamp.to_be_bytes());
+    push_digest(buffer, digest.0);
+}
+
+/// Writes the payload of a Floor into the buffer, which is emptied before.
+pub(crate) fn write_floor(buffer: &mut Vec<u8>, floor: u64, next: u64)
+    requires room { 16 ≤ vec_capacity buffer.old }
+    ensures bytes { buffer.new.items ≡ floor_bytes floor next }
+    ensures len { length buffer.new.items ≡ 16 }
+    ensures capacity { vec_capacity buffer.new ≡ vec_capacity buffer.old }
+{
+    buffer.clear();
+    push_all(buffer, &floor.to_be_bytes());
+    push_all(buffer, &next.to_be_bytes());
 }
 
 fn push_digest(buffer: &mut Vec<u8>, digest: [u8; 32])

@@ -1,12 +1,13 @@
-use Rattle.std.proofs.Common.{◌≡◌, ◌+◌, ◌≤◌, length, List, ap, sym, subst, ◌∙◌, arith, vec_capacity}
+use Rattle.std.proofs.Common.{◌≡◌, length, List, ap, sym, subst, ◌∙◌, arith}
 use Rattle.std.proofs.lemmas.Result.{err_from_is_err_and}
 use Rattle.fk_journal.specs.Entries.{contents_of, place_behind, HoldsEntries}
-use Rattle.fk_journal.specs.Keeps.{Keeps, selected}
+use Rattle.fk_journal.specs.Keeps.{Log, Keeps, selected}
 use Rattle.fk_host.specs.Disk.{IfTold}
-use Rattle.fk_trace.specs.Ledger.{next_id, floor_of}
+use Rattle.fk_trace.specs.Ledger.{floor_of}
 use Rattle.fk_ledger.specs.declared.ledger.Ledger.TheInside.{Inside}
 use Rattle.fk_ledger.specs.Book.{live_ids}
-use Rattle.fk_ledger.proofs.RoomLaws.{order_found}
+use Rattle.fk_trace.specs.declared.change.Change.{Change}
+use Rattle.fk_ledger.proofs.RoomLaws.{order_found, order_of}
 use Rattle.fk_journal.specs.declared.entry.Entry.{Entry}
 use Rattle.fk_ledger.proofs.OpeningLaws.{held_of, kept_of, failed_opening, whole_opening, same_error, area_damaged, entry_damaged}
 use Rattle.fk_ledger.proofs.ledger.Ledger.open.Goals as goal
@@ -38,9 +39,9 @@ returns-in_err-ids-clause-moments g c =
     let p = err_from_is_err_and c.from_residual-in_err-ids.result c.from_residual-in_err-ids.ensures.1 in
     rw p.1 (λ ledger. failed_opening ledger (g.D.Disk.told c.args.disk.now) (g.D.Disk.told c.open.new.disk) (g.D.Disk.may_leave c.args.disk.now) (g.D.Disk.may_leave c.open.new.disk) c.in_ok-journal.ensures.moments)
 
-pub returns-in_err-reserve-clause-moments : goal.returns-in_err-reserve-clause-moments
-returns-in_err-reserve-clause-moments g c =
-    let p = err_from_is_err_and c.from_residual-in_err-reserve.result c.from_residual-in_err-reserve.ensures.1 in
+pub returns-in_err-payload-clause-moments : goal.returns-in_err-payload-clause-moments
+returns-in_err-payload-clause-moments g c =
+    let p = err_from_is_err_and c.from_residual-in_err-payload.result c.from_residual-in_err-payload.ensures.1 in
     rw p.1 (λ ledger. failed_opening ledger (g.D.Disk.told c.args.disk.now) (g.D.Disk.told c.open.new.disk) (g.D.Disk.may_leave c.args.disk.now) (g.D.Disk.may_leave c.open.new.disk) c.in_ok-journal.ensures.moments)
 
 pub returns-in_err-owed-clause-moments : goal.returns-in_err-owed-clause-moments
@@ -50,25 +51,26 @@ returns-in_err-owed-clause-moments g c =
 
 pub invariant_of-ledger : goal.invariant_of-ledger
 invariant_of-ledger g c =
-    let sizes = c.in_ok-reserve.ensures.ok in
-    let more = c.len.ensures in
-    let fits : length c.in_ok-changes.changes.items + length c.in_ok-ids.ids.items ≤ vec_capacity c.reserve.new.self = omega arith in
-    let again = c.len-2.ensures in
-    let lives : c.len-2.result ≡ length c.in_ok-ids.ids.items = omega arith in
     let like : Inside = record {
-      journal = c.in_ok-journal.journal;
-      changes = c.reserve.new.self;
+      journal = c.make_ready.new.journal;
+      changes = c.make_ready.new.changes;
       index = c.in_ok-changes.outline.digests;
-      live = c.len-2.result;
+      live = c.make_ready.new.ids;
       next = c.in_ok-changes.outline.next;
       floor = c.floor_of-floor.result;
       limit = c.args.live;
       keep = c.args.keep;
-      payload = c.new.result;
+      payload = c.in_ok-payload.payload;
     } in
-    order_found c.in_ok-journal.journal c.reserve.new.self like c.args.live c.args.keep c.len-2.result c.in_ok-changes.outline.next c.floor_of-floor.result c.new.result c.in_ok-changes.changes.items c.in_ok-ids.ids.items (contents_of c.deref.result.now) c.in_ok-changes.ensures.held
-    (c.in_ok-journal.ensures.keeps.behind ∙ ap (λ (es : List Entry). place_behind (contents_of es)) (sym c.deref.ensures.value)) c.in_ok-journal.ensures.fresh.2 c.in_ok-journal.ensures.fresh.3 c.in_ok-reserve.ensures.items
-    (c.in_ok-ids.ensures ∙ ap live_ids c.deref-2.ensures.value) lives fits c.in_ok-changes.ensures.outline.next (c.floor_of-floor.ensures ∙ ap floor_of c.deref-3.ensures.value) c.in_ok-changes.ensures.outline.digests
+    let found : List Change = c.in_ok-changes.changes.items in
+    let ready = c.in_ok-payload.ensures in
+    let ids : c.make_ready.new.ids.items ≡ live_ids found = ready.same.1 ∙ c.in_ok-ids.ensures ∙ ap live_ids c.deref-2.ensures.value in
+    let order = order_found like found (contents_of c.deref.result.now) c.in_ok-changes.ensures.held ready.same.0 ids c.in_ok-changes.ensures.outline.next (c.floor_of-floor.ensures ∙ ap floor_of c.deref-3.ensures.value)
+    (ap (λ (l : Log). l.end) ready.log ∙ c.in_ok-journal.ensures.keeps.behind ∙ ap (λ (es : List Entry). place_behind (contents_of es)) (sym c.deref.ensures.value))
+    (ap (λ (l : Log). l.is_copying) ready.log ∙ c.in_ok-journal.ensures.fresh.3) c.in_ok-changes.ensures.outline.digests in
+    let changes = ap length ready.same.0 in
+    let count = ap length ids in
+    order_of like found order (omega (arith, ready.changes, changes, count)) ready.ids ready.journal ready.payload
 
 pub returns-clause-moments : goal.returns-clause-moments
 returns-clause-moments g c = λ ledger.
@@ -77,10 +79,10 @@ returns-clause-moments g c = λ ledger.
 
 pub returns-clause-held : goal.returns-clause-held
 returns-clause-held g c =
-    held_of (contents_of c.deref.result.now) c.in_ok-changes.changes.items c.reserve.new.self.items (g.D.Disk.told c.args.disk.now) (g.D.Disk.told c.open.new.disk) c.in_ok-changes.ensures.held c.in_ok-reserve.ensures.items
+    held_of (contents_of c.deref.result.now) c.in_ok-changes.changes.items c.make_ready.new.changes.items (g.D.Disk.told c.args.disk.now) (g.D.Disk.told c.open.new.disk) c.in_ok-changes.ensures.held c.in_ok-payload.ensures.same.0
     (subst (λ (es : List Entry). IfTold (g.D.Disk.told c.args.disk.now) (g.D.Disk.told c.open.new.disk) (λ x y. HoldsEntries (selected x.areas) (contents_of es))) (sym c.deref.ensures.value) c.in_ok-journal.ensures.held)
 
 pub returns-clause-keeps : goal.returns-clause-keeps
 returns-clause-keeps g c =
-    kept_of (contents_of c.deref.result.now) c.in_ok-changes.changes.items c.reserve.new.self.items c.in_ok-journal.journal (g.D.Disk.told c.open.new.disk) (g.D.Disk.may_leave c.open.new.disk) c.in_ok-changes.ensures.held c.in_ok-reserve.ensures.items
+    kept_of (contents_of c.deref.result.now) c.in_ok-changes.changes.items c.make_ready.new.changes.items c.in_ok-journal.journal (g.D.Disk.told c.open.new.disk) (g.D.Disk.may_leave c.open.new.disk) c.in_ok-changes.ensures.held c.in_ok-payload.ensures.same.0
     (subst (λ (es : List Entry). Keeps c.in_ok-journal.journal (contents_of es) (g.D.Disk.told c.open.new.disk) (g.D.Disk.may_leave c.open.new.disk)) (sym c.deref.ensures.value) c.in_ok-journal.ensures.keeps)
