@@ -108,6 +108,7 @@ class Grant:
     source: str
     pairs: tuple
     seconds: int
+    stamp: int
 
 
 def admitted(stanzas, age, moment, source, datagram):
@@ -117,7 +118,7 @@ def admitted(stanzas, age, moment, source, datagram):
         fields, refusal = tried(stanza, age, moment, source, datagram)
         if fields is not None:
             address = source if fields.address == "0.0.0.0" else fields.address
-            return Grant(number, stanza, address, source, fields.pairs, fields.seconds or stanza.timer), None
+            return Grant(number, stanza, address, source, fields.pairs, fields.seconds or stanza.timer, fields.stamp), None
         if why is None and refusal != "no-stanza":
             why = refusal
     return None, why or "no-stanza"
@@ -135,6 +136,8 @@ def filled(template, grant):
 class Record:
     due: int
     close: list
+    # how many bytes its entry takes
+    size: int
     # the child whose end comes with the next turn: `open`, `close` or none
     runs: str | None = "open"
 
@@ -142,9 +145,10 @@ class Record:
 class Trial:
     """A trial over these stanzas: each child is found to have ended well at the next turn."""
 
-    def __init__(self, stanzas, age=120, live=256, room=16777216):
-        self.stanzas, self.age, self.most, self.room = stanzas, age, live, room
-        self.used, self.seen, self.live, self.children, self.made = 2, set(), {}, [], 0
+    def __init__(self, stanzas, age=120, live=256, room=16777216, keep=86400):
+        self.stanzas, self.age, self.most, self.room, self.keep = stanzas, age, live, room, max(keep, age)
+        # what is seen are digests, each with the stamp and the number of its record
+        self.used, self.floor, self.seen, self.live, self.children, self.made = 2, 0, {}, {}, [], 0
         self.counts = dict.fromkeys(("turns", "opens", "closes", "settled", "refused"), 0)
 
     def turn(self, moment, source=None, datagram=None):
@@ -181,11 +185,26 @@ class Trial:
         if grant is not None:
             close = filled(grant.stanza.closing, grant)
             size = 6 + 72 + sum(2 + len(it) for it in close)
-            if len(self.live) < self.most and self.used + size + 14 * (len(self.live) + 1) <= self.room:
+            if grant.stamp < self.floor:
+                why = "stale"
+            elif len(self.live) < self.most and self.has_room(moment, size + 14 * (len(self.live) + 1)):
                 return self.opens(moment, grant, close, size, datagram)
-            why = "full"
+            else:
+                why = "full"
         self.counts["refused"] += 1
         return [f"from {source} refused {why}"]
+
+    def has_room(self, moment, size):
+        """Whether so many bytes have room behind what is used, or where the journal begins anew, which it then does."""
+        if self.used + size <= self.room:
+            return True
+        floor = max(self.floor, moment - self.keep)
+        kept = {of: (stamp, number) for of, (stamp, number) in self.seen.items() if number in self.live or stamp >= floor}
+        used = 2 + 22 + sum(self.live[number].size if number in self.live else 54 for _, number in kept.values())
+        if used + size > self.room:
+            return False
+        self.used, self.floor, self.seen = used, floor, kept
+        return True
 
     def decided(self, moment, source, datagram):
         fault = shape_fault(datagram)
@@ -198,8 +217,8 @@ class Trial:
     def opens(self, moment, grant, close, size, datagram):
         self.made += 1
         self.used += size
-        self.seen.add(digest(datagram))
-        self.live[self.made] = Record(moment + grant.seconds, close)
+        self.seen[digest(datagram)] = grant.stamp, self.made
+        self.live[self.made] = Record(moment + grant.seconds, close, size)
         self.children.append(self.made)
         self.counts["opens"] += 1
         return [

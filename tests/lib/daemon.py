@@ -1,6 +1,8 @@
 """A built daemon in a folder and on a port of its own, the datagrams that it is sent, and the children that it starts."""
 import os, random, socket, subprocess, time
 
+import journal
+
 # the most that anything is waited for, in seconds; a busy machine may be slow
 PATIENCE = 120
 
@@ -71,10 +73,15 @@ class Daemon:
             return it.read()
 
     def journal(self):
-        if not os.path.exists(self.path("fwknopd.one")):
-            return b""
-        with open(self.path("fwknopd.one"), "rb") as it:
-            return it.read()
+        """The bytes of the file that counts."""
+        files = []
+        for name in ("fwknopd.head", "fwknopd.one", "fwknopd.two"):
+            try:
+                with open(self.path(name), "rb") as it:
+                    files.append(it.read())
+            except FileNotFoundError:
+                files.append(b"")
+        return journal.selected(*files)
 
     def begin(self, *words):
         """Starts it with these further words, and waits until it says that it is ready.
