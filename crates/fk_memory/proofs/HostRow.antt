@@ -1,12 +1,13 @@
 -- A row of the host and the feed in memory, worked out by hand.
 use Rattle.std.proofs.Common.{◌≡◌, true, false, List, [], ◌∷◌, Some, None, Ok, refl}
-use Rattle.fk_base.specs.declared.purpose.Purpose.TheVariants.{Close}
+use Rattle.fk_base.specs.declared.purpose.Purpose.TheVariants.{Open, Close}
 use Rattle.fk_trace.specs.Trace.{Event}
 use Rattle.fk_trace.specs.Trace.Event.{Turn, Began, StartFailed, Ended, Runs}
 use Rattle.fk_trace.specs.Decision.Input.{Quiet, Datagram}
 use Rattle.fk_memory.specs.declared.children.StartScript.TheVariants.{Fails, Ends}
 use Rattle.fk_host.specs.Host.{brought_by_start, brought_by_poll}
 use Rattle.fk_memory.specs.Children.{Children, above_children, start_answer, poll_answer, children_after}
+use Rattle.fk_memory.specs.Starts.{starts_of}
 use Rattle.fk_memory.specs.Feed.{FeedState, given_by, after_next}
 
 -- the first start is to fail, the second child to end badly after two turns
@@ -38,6 +39,17 @@ third_fails = refl
 
 is_forgotten : above_children (begun (Runs 1 ∷ Turn 3 ∷ Ended 1 false ∷ [])) ≡ record { running = []; faults = 1; last_child = 1 }
 is_forgotten = refl
+
+-- an open that failed and a close that began, among a turn and a poll; two calls of the disk stand before the first of them
+two_starts : starts_of (
+    record { event = Turn 1; moments = 1; faults = 0 }
+    ∷ record { event = StartFailed (Open 7) []; moments = 4; faults = 0 }
+    ∷ record { event = Began 1 (Close 7) []; moments = 5; faults = 0 }
+    ∷ record { event = Runs 1; moments = 6; faults = 0 }
+    ∷ []
+    )
+    ≡ (4, Open 7, false) ∷ (5, Close 7, true) ∷ []
+two_starts = refl
 
 -- of two turns the second call fails: the turn comes at the third, and then the end
 abbrev two_turns : FeedState

@@ -7,5 +7,6 @@ pub mod Entropy
 pub mod Area
 pub mod Children
 pub mod Host
+pub mod Starts
 pub mod HostRecord
 pub mod Sound

@@ -1,12 +1,13 @@
 //! A host in memory: its disk keeps each call, so that what a crash at any moment may leave can be told, and its children fare as
 //! they were scripted.
-ghost use Rattle.std.specs.Prelude.{◌≡◌, ℕ, ◌+◌, ◌^◌, ◌<◌, ◌≤◌, Some, IsTrue, ◌||◌, ◌==◌, min, true, false, [], ◌∷◌, ◌++◌, if◌then◌else◌, length, take, drop, is_err, IfOk, OnErr, OnOk, IfSome};
+ghost use Rattle.std.specs.Prelude.{◌≡◌, ℕ, ◌+◌, ◌^◌, ◌<◌, ◌≤◌, Some, IsTrue, ◌||◌, ◌==◌, min, true, false, [], ◌∷◌, ◌++◌, if◌then◌else◌, length, take, drop, slice_get, is_err, IfOk, OnErr, OnOk, IfSome};
 ghost use Rattle.std.specs.List.{list_any};
 ghost use Rattle.std.specs.Option.{ForSome};
 ghost use Rattle.fk_host.specs.Count.{counted, HasCause};
 ghost use Rattle.fk_host.specs.Disk.{area_of, Written, Torn, Cut, Same, InArea, Synced, Calls, LeavesHost};
 ghost use Rattle.fk_memory.specs.Area.{AreaState, area_after, areas_after, after_call, overwritten, MayHold, reads_after};
 ghost use Rattle.fk_memory.specs.Host.{told_of, leaves_of, above_of, fails_next, fails_to_write, after_disk_call, after_call_above};
+ghost use Rattle.fk_memory.specs.Starts.{starts_of};
 ghost use Rattle.fk_memory.specs.HostRecord.{texts, event_of};
 ghost use Rattle.fk_trace.specs.Trace.Event.{Turn};
 ghost use Rattle.fk_host.specs.Host.{brought_by_start, brought_by_poll, CallsAbove, above_after, above_by, is_running};
@@ -211,6 +212,31 @@ impl MemHost {
         ensures { result ≡ length self.now.calls }
     {
         self.calls.len() as u64
+    }
+
+    /// How many attempts to start a child the trace tells.
+    pub fn starts(&self) -> usize
+        ensures { result ≡ length (starts_of self.now.trace) }
+    {
+        self.trace.iter().filter_map(|item| item.start()).count()
+    }
+
+    /// Of an attempt to start a child, counted from 0: how many calls of the host were kept up to it, its own among them, what it
+    /// was for, and whether the child began.
+    pub fn start_at(&self, at: usize) -> (u64, Purpose, bool)
+        requires { at < length (starts_of self.now.trace) }
+        ensures { slice_get (starts_of self.now.trace) at ≡ Some result }
+    {
+        match self.find_start(at) {
+            Some(start) => start,
+            None => unreachable!(),
+        }
+    }
+
+    fn find_start(&self, at: usize) -> Option<(u64, Purpose, bool)>
+        ensures { result ≡ slice_get (starts_of self.now.trace) at }
+    {
+        self.trace.iter().filter_map(|item| item.start()).nth(at)
     }
 
     /// Whether the host couldn't grow for its own record. It then tells nothing more, each further call of the disk and each poll

@@ -2,6 +2,7 @@
 ghost use Rattle.std.specs.Prelude.{◌≡◌, ◌<◌, Some, IfOk, IfSome, length, slice_get, take};
 ghost use Rattle.fk_host.specs.Host.{brought_by_start, brought_by_poll};
 ghost use Rattle.fk_memory.specs.HostRecord.{event_of};
+ghost use Rattle.fk_memory.specs.Starts.{start_of};
 
 use fk_base::{Failed, NoMemory, Purpose, Words};
 use fk_host::{ChildId, StartErr};
@@ -81,6 +82,19 @@ impl Model for KeptItem {
     ghost Value = { Item };
 
     ghost view = { λ i. record { event = event_of i.event; moments = i.moments; faults = i.faults } };
+}
+
+impl KeptItem {
+    /// The attempt to start a child, if it was one: the count of moments, what it was for, and whether the child began.
+    pub fn start(&self) -> Option<(u64, Purpose, bool)>
+        ensures { result ≡ start_of self.now }
+    {
+        match &self.event {
+            HostEvent::Began { purpose, .. } => Some((self.moments, *purpose, true)),
+            HostEvent::StartFailed { purpose, .. } => Some((self.moments, *purpose, false)),
+            _ => None,
+        }
+    }
 }
 
 fn copy_words(alloc: Global, words: &Words) -> Result<Words, NoMemory>
