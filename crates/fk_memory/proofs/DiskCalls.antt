@@ -78,43 +78,43 @@ within old of at asked told =
     asked (told_after old.trace old.first old.calls) (ap (λ (b : Bool). if b then None else Some (told_after old.trace old.first old.calls)) told) in
     subst (λ (bytes : List ℕ). at ≤ length bytes) (area_reads old.first old.calls of) here
 
-pub write_ok : {T : Type 0} (old new : HostState) (of : Area) (at : ℕ) (bytes : List ℕ) (failed : Bool) (result : Result T Failed)
+pub write_ok : {T : Type 0} (old new : HostState) (of : Area) (at : ℕ) (bytes : List ℕ) (failed : Bool) (done : ℕ) (result : Result T Failed)
     → ForSome (told_of old) (λ now. at ≤ length (area_of of now.areas)) → is_err result ≡ (failed || new.is_short)
-    → new ≡ after_disk_call (Write of at bytes failed) failed new.is_short old
+    → new ≡ after_disk_call (Write of at bytes failed done) failed new.is_short old
     → OnOk result (Calls told_of leaves_of old new (InArea of (Written at bytes)) (InArea of (Torn at (length bytes))))
-write_ok old new of at bytes failed (Err e) asked says state = tt
-write_ok old new of at bytes failed (Ok x) asked says state =
+write_ok old new of at bytes failed done (Err e) asked says state = tt
+write_ok old new of at bytes failed done (Ok x) asked says state =
     let fine : failed ≡ false = ok_not_failed failed new.is_short says in
-    called old new (Write of at bytes false) false (InArea of (Written at bytes)) (InArea of (Torn at (length bytes)))
-    (subst (λ (b : Bool). new ≡ after_disk_call (Write of at bytes b) b new.is_short old) fine state)
-    (λ told before. write_passes old.trace old.first old.calls of at bytes (within old of at asked before))
+    called old new (Write of at bytes false done) false (InArea of (Written at bytes)) (InArea of (Torn at (length bytes)))
+    (subst (λ (b : Bool). new ≡ after_disk_call (Write of at bytes b done) b new.is_short old) fine state)
+    (λ told before. write_passes old.trace old.first old.calls of at bytes done (within old of at asked before))
 
-pub write_err : {T : Type 0} (old new : HostState) (of : Area) (at : ℕ) (bytes : List ℕ) (failed : Bool) (result : Result T Failed)
+pub write_err : {T : Type 0} (old new : HostState) (of : Area) (at : ℕ) (bytes : List ℕ) (failed : Bool) (done : ℕ) (result : Result T Failed)
     → ForSome (told_of old) (λ now. at ≤ length (area_of of now.areas)) → is_err result ≡ (failed || new.is_short)
-    → new ≡ after_disk_call (Write of at bytes failed) failed new.is_short old
+    → new ≡ after_disk_call (Write of at bytes failed done) failed new.is_short old
     → OnErr result (Calls told_of leaves_of old new (InArea of (Torn at (length bytes))) (InArea of (Torn at (length bytes))))
-write_err old new of at bytes failed (Ok x) asked says state = tt
-write_err old new of at bytes failed (Err e) asked says state =
-    called old new (Write of at bytes failed) failed (InArea of (Torn at (length bytes))) (InArea of (Torn at (length bytes))) state
-    (λ told before. rw (err_failed failed new.is_short says told) (failed_write_passes old.trace old.first old.calls of at bytes (within old of at asked before)))
+write_err old new of at bytes failed done (Ok x) asked says state = tt
+write_err old new of at bytes failed done (Err e) asked says state =
+    called old new (Write of at bytes failed done) failed (InArea of (Torn at (length bytes))) (InArea of (Torn at (length bytes))) state
+    (λ told before. rw (err_failed failed new.is_short says told) (failed_write_passes old.trace old.first old.calls of at bytes done (within old of at asked before)))
 
-pub cut_ok : {T : Type 0} (old new : HostState) (of : Area) (len : ℕ) (failed : Bool) (result : Result T Failed)
-    → is_err result ≡ (failed || new.is_short) → new ≡ after_disk_call (Cuts of len failed) failed new.is_short old
+pub cut_ok : {T : Type 0} (old new : HostState) (of : Area) (len : ℕ) (failed : Bool) (done : ℕ) (result : Result T Failed)
+    → is_err result ≡ (failed || new.is_short) → new ≡ after_disk_call (Cuts of len failed done) failed new.is_short old
     → OnOk result (Calls told_of leaves_of old new (InArea of (λ old new. new ≡ take len old)) (InArea of (Cut len)))
-cut_ok old new of len failed (Err e) says state = tt
-cut_ok old new of len failed (Ok x) says state =
+cut_ok old new of len failed done (Err e) says state = tt
+cut_ok old new of len failed done (Ok x) says state =
     let fine : failed ≡ false = ok_not_failed failed new.is_short says in
-    called old new (Cuts of len false) false (InArea of (λ old new. new ≡ take len old)) (InArea of (Cut len))
-    (subst (λ (b : Bool). new ≡ after_disk_call (Cuts of len b) b new.is_short old) fine state)
-    (λ told before. cut_passes old.trace old.first old.calls of len)
+    called old new (Cuts of len false done) false (InArea of (λ old new. new ≡ take len old)) (InArea of (Cut len))
+    (subst (λ (b : Bool). new ≡ after_disk_call (Cuts of len b done) b new.is_short old) fine state)
+    (λ told before. cut_passes old.trace old.first old.calls of len done)
 
-pub cut_err : {T : Type 0} (old new : HostState) (of : Area) (len : ℕ) (failed : Bool) (result : Result T Failed)
-    → is_err result ≡ (failed || new.is_short) → new ≡ after_disk_call (Cuts of len failed) failed new.is_short old
+pub cut_err : {T : Type 0} (old new : HostState) (of : Area) (len : ℕ) (failed : Bool) (done : ℕ) (result : Result T Failed)
+    → is_err result ≡ (failed || new.is_short) → new ≡ after_disk_call (Cuts of len failed done) failed new.is_short old
     → OnErr result (Calls told_of leaves_of old new (InArea of (Cut len)) (InArea of (Cut len)))
-cut_err old new of len failed (Ok x) says state = tt
-cut_err old new of len failed (Err e) says state =
-    called old new (Cuts of len failed) failed (InArea of (Cut len)) (InArea of (Cut len)) state
-    (λ told before. rw (err_failed failed new.is_short says told) (failed_cut_passes old.trace old.first old.calls of len))
+cut_err old new of len failed done (Ok x) says state = tt
+cut_err old new of len failed done (Err e) says state =
+    called old new (Cuts of len failed done) failed (InArea of (Cut len)) (InArea of (Cut len)) state
+    (λ told before. rw (err_failed failed new.is_short says told) (failed_cut_passes old.trace old.first old.calls of len done))
 
 pub sync_ok : {T : Type 0} (old new : HostState) (of : Area) (failed : Bool) (result : Result T Failed)
     → is_err result ≡ (failed || new.is_short) → new ≡ after_disk_call (Sync of failed) failed new.is_short old
@@ -165,8 +165,8 @@ write_within old new end false (Ok x) says = not_past end (ok_not_failed (ltb 10
 -- what a read gives after a call is told by what it gave
 pub reads_after_is : (area : Area) (call : Call) (m : AreaState) → reads_after area call m.reads ≡ (after_call area call m).reads
 reads_after_is area Other m = refl
-reads_after_is area (Write of at bytes failed) m = elim (is_same_area of area) as (λ b. (if b then after_write at bytes failed (at_rest m.reads) else at_rest m.reads).reads ≡ (if b then after_write at bytes failed m else m).reads) [ true ↦ refl | false ↦ refl ]
-reads_after_is area (Cuts of len failed) m = elim (is_same_area of area) as (λ b. (if b then after_cut len failed (at_rest m.reads) else at_rest m.reads).reads ≡ (if b then after_cut len failed m else m).reads) [ true ↦ refl | false ↦ refl ]
+reads_after_is area (Write of at bytes failed done) m = elim (is_same_area of area) as (λ b. (if b then after_write at bytes failed done (at_rest m.reads) else at_rest m.reads).reads ≡ (if b then after_write at bytes failed done m else m).reads) [ true ↦ refl | false ↦ refl ]
+reads_after_is area (Cuts of len failed done) m = elim (is_same_area of area) as (λ b. (if b then after_cut len failed done (at_rest m.reads) else at_rest m.reads).reads ≡ (if b then after_cut len failed done m else m).reads) [ true ↦ refl | false ↦ refl ]
 reads_after_is area (Sync of failed) m = elim (is_same_area of area) as (λ b. (if b then after_sync failed (at_rest m.reads) else at_rest m.reads).reads ≡ (if b then after_sync failed m else m).reads) [
   | true ↦ elim failed as (λ f. (after_sync f (at_rest m.reads)).reads ≡ (after_sync f m).reads) [ true ↦ refl | false ↦ refl ]
   | false ↦ refl

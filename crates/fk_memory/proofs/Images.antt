@@ -24,9 +24,9 @@ in_or_out : (at count i : ℕ) → ((at ≤ i) × (i < at + count)) ⊎ ((i < at
 in_or_out at count i = grind (arith, nat_tests)
 
 -- an image behind a write was torn from one before it
-pub write_leaves : (place : ℕ) (bytes : List ℕ) (failed : Bool) (m : AreaState) (image : List ℕ) → IsSound m → MayHold (after_write place bytes failed m) image
+pub write_leaves : (place : ℕ) (bytes : List ℕ) (failed : Bool) (done : ℕ) (m : AreaState) (image : List ℕ) → IsSound m → MayHold (after_write place bytes failed done m) image
     → (from : List ℕ) × MayHold m from × Torn (min place (length m.reads)) (length bytes) from image
-write_leaves place bytes failed m image sound held =
+write_leaves place bytes failed done m image sound held =
     let at : ℕ = min place (length m.reads) in
     let count : ℕ = length bytes in
     let size : ℕ = min (length image) m.greatest in
@@ -57,9 +57,9 @@ write_leaves place bytes failed m image sound held =
     )
 
 -- an image behind a cut was cut from one before it
-pub cut_leaves : (len : ℕ) (failed : Bool) (m : AreaState) (image : List ℕ) → IsSound m → MayHold (after_cut len failed m) image
+pub cut_leaves : (len : ℕ) (failed : Bool) (done : ℕ) (m : AreaState) (image : List ℕ) → IsSound m → MayHold (after_cut len failed done m) image
     → (from : List ℕ) × MayHold m from × Cut len from image
-cut_leaves len failed m image sound held =
+cut_leaves len failed done m image sound held =
     elim (cases_lt (length image) m.least) [
       | inr long ↦ (
         image,

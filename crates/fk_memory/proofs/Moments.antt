@@ -1,14 +1,14 @@
 -- What each call of a host in memory does to what a read gives and to what a crash may leave.
-use Rattle.std.proofs.Common.{◌≡◌, ℕ, ◌+◌, ◌≤◌, min, Bool, true, false, List, [], ◌∷◌, ◌++◌, length, take, drop, refl, ap, ◌∙◌, sym, subst, arith, if◌then◌else◌}
-use Rattle.std.proofs.lemmas.List.{length_push, take-append-le, take_all}
+use Rattle.std.proofs.Common.{◌≡◌, ℕ, ◌+◌, ◌-◌, ◌≤◌, min, max, Bool, true, false, List, [], ◌∷◌, ◌++◌, length, take, drop, refl, ap, ◌∙◌, sym, subst, arith, if◌then◌else◌}
+use Rattle.std.proofs.lemmas.List.{length_push, length-take, take-append-le, take_all, take_min}
 use Rattle.fk_trace.specs.Trace.{Item}
 use Rattle.fk_host.specs.declared.disk.Area.{Area}
 use Rattle.fk_host.specs.declared.disk.Area.TheVariants.{Head, One, Two}
 use Rattle.fk_memory.specs.declared.host.Call.{Call}
 use Rattle.fk_memory.specs.declared.host.Call.TheVariants.{Other, Write, Cut, Sync}
 use Rattle.fk_host.specs.Disk.{Areas, Told, area_of, Written, Torn, Cut as IsCut, Same, InArea, Synced, KeepsPast, Passes}
-use Rattle.fk_memory.specs.Area.{AreaState, MayHold, at_rest, is_same_area, after_write, after_cut, after_sync, after_call, after_calls, area_after, areas_after, MayLeave}
-use Rattle.fk_memory.specs.Sound.{sound_after, LeavesNow, now_leaves, area_reads}
+use Rattle.fk_memory.specs.Area.{AreaState, MayHold, at_rest, is_same_area, overwritten, after_write, after_cut, after_sync, after_call, after_calls, area_after, areas_after, MayLeave}
+use Rattle.fk_memory.specs.Sound.{length-overwritten, overwritten_outside, put_within, outside_front, sound_after, LeavesNow, now_leaves, area_reads}
 use Rattle.fk_memory.proofs.Images.{write_leaves, cut_leaves, sync_leaves, one_at_rest}
 
 pub after_calls-push : (area : Area) (calls : List Call) (call : Call) (m : AreaState) → after_calls area (calls ++ call ∷ []) m ≡ after_call area call (after_calls area calls m)
@@ -119,61 +119,73 @@ if_same false changed m is = cc
 place_is : (at : ℕ) (bytes : List ℕ) → at ≤ length bytes → min at (length bytes) ≡ at
 place_is at bytes le = omega arith
 
-pub write_passes : (trace : List Item) (first : Areas) (calls : List Call) (of : Area) (at : ℕ) (bytes : List ℕ) → at ≤ length (area_after first calls of).reads
-    → Passes (InArea of (Written at bytes)) (InArea of (Torn at (length bytes))) (MayLeave first calls) (MayLeave first (calls ++ Write of at bytes false ∷ [])) (told_after trace first calls) (told_after trace first (calls ++ Write of at bytes false ∷ []))
-write_passes trace first calls of at bytes le =
-    let call : Call = Write of at bytes false in
+pub write_passes : (trace : List Item) (first : Areas) (calls : List Call) (of : Area) (at : ℕ) (bytes : List ℕ) (done : ℕ) → at ≤ length (area_after first calls of).reads
+    → Passes (InArea of (Written at bytes)) (InArea of (Torn at (length bytes))) (MayLeave first calls) (MayLeave first (calls ++ Write of at bytes false done ∷ [])) (told_after trace first calls) (told_after trace first (calls ++ Write of at bytes false done ∷ []))
+write_passes trace first calls of at bytes done le =
+    let call : Call = Write of at bytes false done in
     let m : AreaState = area_after first calls of in
     let place : min at (length m.reads) ≡ at = place_is at m.reads le in
-    let others : (other : Area) → is_same_area of other ≡ false → (n : AreaState) → after_call other call n ≡ n = λ other apart n. if_other (is_same_area of other) (after_write at bytes false n) n apart in
-    let here : after_call of call m ≡ after_write at bytes false m = if_same (is_same_area of of) (after_write at bytes false m) m (same_area of) in
+    let others : (other : Area) → is_same_area of other ≡ false → (n : AreaState) → after_call other call n ≡ n = λ other apart n. if_other (is_same_area of other) (after_write at bytes false done n) n apart in
+    let here : after_call of call m ≡ after_write at bytes false done m = if_same (is_same_area of of) (after_write at bytes false done m) m (same_area of) in
     passes trace first calls call (InArea of (Written at bytes)) (InArea of (Torn at (length bytes)))
     (reads_in_area first calls call of (Written at bytes) others (ap (λ n. n.reads) here ∙ ap (λ n. take n m.reads ++ bytes ++ drop (n + length bytes) m.reads) place))
     (in_area first calls call of (Torn at (length bytes)) others (λ image held.
-    let r = write_leaves at bytes false m image (sound_after first calls of) (subst (λ (n : AreaState). MayHold n image) here held) in
+    let r = write_leaves at bytes false done m image (sound_after first calls of) (subst (λ (n : AreaState). MayHold n image) here held) in
     (r.0, r.1, subst (λ (n : ℕ). Torn n (length bytes) r.0 image) place r.2)))
 
-torn_same : (at count : ℕ) (bytes : List ℕ) → Torn at count bytes bytes
-torn_same at count bytes = record { no_shorter = omega arith; no_longer = omega arith; kept = λ i inside apart. refl }
+torn_front : (at done : ℕ) (bytes old : List ℕ) → at ≤ length old → Torn at (length bytes) old (overwritten at (take done bytes) old)
+torn_front at done bytes old le =
+    let piece : List ℕ = take done bytes in
+    let short : length piece ≤ length bytes = put_within bytes true done in
+    let size : length (overwritten at piece old) ≡ max (length old) (at + length piece) = length-overwritten at piece old le in
+    record {
+      no_shorter = omega (arith, size);
+      no_longer = omega (arith, size, short);
+      kept = λ i inside apart. overwritten_outside at piece old i le inside (outside_front at (length piece) (length bytes) i short apart);
+    }
 
-pub failed_write_passes : (trace : List Item) (first : Areas) (calls : List Call) (of : Area) (at : ℕ) (bytes : List ℕ) → at ≤ length (area_after first calls of).reads
-    → Passes (InArea of (Torn at (length bytes))) (InArea of (Torn at (length bytes))) (MayLeave first calls) (MayLeave first (calls ++ Write of at bytes true ∷ [])) (told_after trace first calls) (told_after trace first (calls ++ Write of at bytes true ∷ []))
-failed_write_passes trace first calls of at bytes le =
-    let call : Call = Write of at bytes true in
+pub failed_write_passes : (trace : List Item) (first : Areas) (calls : List Call) (of : Area) (at : ℕ) (bytes : List ℕ) (done : ℕ) → at ≤ length (area_after first calls of).reads
+    → Passes (InArea of (Torn at (length bytes))) (InArea of (Torn at (length bytes))) (MayLeave first calls) (MayLeave first (calls ++ Write of at bytes true done ∷ [])) (told_after trace first calls) (told_after trace first (calls ++ Write of at bytes true done ∷ []))
+failed_write_passes trace first calls of at bytes done le =
+    let call : Call = Write of at bytes true done in
     let m : AreaState = area_after first calls of in
     let place : min at (length m.reads) ≡ at = place_is at m.reads le in
-    let others : (other : Area) → is_same_area of other ≡ false → (n : AreaState) → after_call other call n ≡ n = λ other apart n. if_other (is_same_area of other) (after_write at bytes true n) n apart in
-    let here : after_call of call m ≡ after_write at bytes true m = if_same (is_same_area of of) (after_write at bytes true m) m (same_area of) in
+    let others : (other : Area) → is_same_area of other ≡ false → (n : AreaState) → after_call other call n ≡ n = λ other apart n. if_other (is_same_area of other) (after_write at bytes true done n) n apart in
+    let here : after_call of call m ≡ after_write at bytes true done m = if_same (is_same_area of of) (after_write at bytes true done m) m (same_area of) in
     passes trace first calls call (InArea of (Torn at (length bytes))) (InArea of (Torn at (length bytes)))
-    (reads_in_area first calls call of (Torn at (length bytes)) others (subst (λ (n : AreaState). Torn at (length bytes) m.reads n.reads) (sym here) (torn_same at (length bytes) m.reads)))
+    (reads_in_area first calls call of (Torn at (length bytes)) others (subst (λ (n : AreaState). Torn at (length bytes) m.reads n.reads) (sym here)
+    (subst (λ (n : ℕ). Torn at (length bytes) m.reads (overwritten n (take done bytes) m.reads)) (sym place) (torn_front at done bytes m.reads le))))
     (in_area first calls call of (Torn at (length bytes)) others (λ image held.
-    let r = write_leaves at bytes true m image (sound_after first calls of) (subst (λ (n : AreaState). MayHold n image) here held) in
+    let r = write_leaves at bytes true done m image (sound_after first calls of) (subst (λ (n : AreaState). MayHold n image) here held) in
     (r.0, r.1, subst (λ (n : ℕ). Torn n (length bytes) r.0 image) place r.2)))
 
-pub cut_passes : (trace : List Item) (first : Areas) (calls : List Call) (of : Area) (len : ℕ)
-    → Passes (InArea of (λ old new. new ≡ take len old)) (InArea of (IsCut len)) (MayLeave first calls) (MayLeave first (calls ++ Cut of len false ∷ [])) (told_after trace first calls) (told_after trace first (calls ++ Cut of len false ∷ []))
-cut_passes trace first calls of len =
-    let call : Call = Cut of len false in
+pub cut_passes : (trace : List Item) (first : Areas) (calls : List Call) (of : Area) (len done : ℕ)
+    → Passes (InArea of (λ old new. new ≡ take len old)) (InArea of (IsCut len)) (MayLeave first calls) (MayLeave first (calls ++ Cut of len false done ∷ [])) (told_after trace first calls) (told_after trace first (calls ++ Cut of len false done ∷ []))
+cut_passes trace first calls of len done =
+    let call : Call = Cut of len false done in
     let m : AreaState = area_after first calls of in
-    let others : (other : Area) → is_same_area of other ≡ false → (n : AreaState) → after_call other call n ≡ n = λ other apart n. if_other (is_same_area of other) (after_cut len false n) n apart in
-    let here : after_call of call m ≡ after_cut len false m = if_same (is_same_area of of) (after_cut len false m) m (same_area of) in
+    let others : (other : Area) → is_same_area of other ≡ false → (n : AreaState) → after_call other call n ≡ n = λ other apart n. if_other (is_same_area of other) (after_cut len false done n) n apart in
+    let here : after_call of call m ≡ after_cut len false done m = if_same (is_same_area of of) (after_cut len false done m) m (same_area of) in
     passes trace first calls call (InArea of (λ old new. new ≡ take len old)) (InArea of (IsCut len))
     (reads_in_area first calls call of (λ old new. new ≡ take len old) others (ap (λ n. n.reads) here))
-    (in_area first calls call of (IsCut len) others (λ image held. cut_leaves len false m image (sound_after first calls of) (subst (λ (n : AreaState). MayHold n image) here held)))
+    (in_area first calls call of (IsCut len) others (λ image held. cut_leaves len false done m image (sound_after first calls of) (subst (λ (n : AreaState). MayHold n image) here held)))
 
-cut_same : (len : ℕ) (bytes : List ℕ) → IsCut len bytes bytes
-cut_same len bytes = record { front = sym (take_all (length bytes) bytes (omega arith)); no_shorter = omega arith }
+cut_front : (len done : ℕ) (bytes : List ℕ) → IsCut len bytes (take (max len (length bytes - done)) bytes)
+cut_front len done bytes =
+    let left : ℕ = max len (length bytes - done) in
+    let size : length (take left bytes) ≡ min left (length bytes) = length-take left bytes in
+    record { front = sym (take_min left bytes) ∙ ap (λ n. take n bytes) (sym size); no_shorter = omega (arith, size) }
 
-pub failed_cut_passes : (trace : List Item) (first : Areas) (calls : List Call) (of : Area) (len : ℕ)
-    → Passes (InArea of (IsCut len)) (InArea of (IsCut len)) (MayLeave first calls) (MayLeave first (calls ++ Cut of len true ∷ [])) (told_after trace first calls) (told_after trace first (calls ++ Cut of len true ∷ []))
-failed_cut_passes trace first calls of len =
-    let call : Call = Cut of len true in
+pub failed_cut_passes : (trace : List Item) (first : Areas) (calls : List Call) (of : Area) (len done : ℕ)
+    → Passes (InArea of (IsCut len)) (InArea of (IsCut len)) (MayLeave first calls) (MayLeave first (calls ++ Cut of len true done ∷ [])) (told_after trace first calls) (told_after trace first (calls ++ Cut of len true done ∷ []))
+failed_cut_passes trace first calls of len done =
+    let call : Call = Cut of len true done in
     let m : AreaState = area_after first calls of in
-    let others : (other : Area) → is_same_area of other ≡ false → (n : AreaState) → after_call other call n ≡ n = λ other apart n. if_other (is_same_area of other) (after_cut len true n) n apart in
-    let here : after_call of call m ≡ after_cut len true m = if_same (is_same_area of of) (after_cut len true m) m (same_area of) in
+    let others : (other : Area) → is_same_area of other ≡ false → (n : AreaState) → after_call other call n ≡ n = λ other apart n. if_other (is_same_area of other) (after_cut len true done n) n apart in
+    let here : after_call of call m ≡ after_cut len true done m = if_same (is_same_area of of) (after_cut len true done m) m (same_area of) in
     passes trace first calls call (InArea of (IsCut len)) (InArea of (IsCut len))
-    (reads_in_area first calls call of (IsCut len) others (subst (λ (n : AreaState). IsCut len m.reads n.reads) (sym here) (cut_same len m.reads)))
-    (in_area first calls call of (IsCut len) others (λ image held. cut_leaves len true m image (sound_after first calls of) (subst (λ (n : AreaState). MayHold n image) here held)))
+    (reads_in_area first calls call of (IsCut len) others (subst (λ (n : AreaState). IsCut len m.reads n.reads) (sym here) (cut_front len done m.reads)))
+    (in_area first calls call of (IsCut len) others (λ image held. cut_leaves len true done m image (sound_after first calls of) (subst (λ (n : AreaState). MayHold n image) here held)))
 
 -- an image behind a sync was there before it
 sync_before : (first : Areas) (calls : List Call) (of : Area) (failed : Bool) (image : Areas) → LeavesThen first calls (Sync of failed) image → LeavesNow first calls image

@@ -1,6 +1,6 @@
 -- What one area of a disk may hold after a crash. Between two syncs that ended well each written range may hold any bytes, the
 -- length is between the least and the greatest since the last of them, and all other bytes stay.
-use Rattle.std.specs.Prelude.{◌≡◌, ◌⊎◌, ℕ, ◌+◌, ◌<◌, ◌≤◌, min, max, Bool, true, false, List, [], ◌∷◌, ◌++◌, length, take, drop, slice_index, if◌then◌else◌}
+use Rattle.std.specs.Prelude.{◌≡◌, ◌⊎◌, ℕ, ◌+◌, ◌-◌, ◌<◌, ◌≤◌, min, max, Bool, true, false, List, [], ◌∷◌, ◌++◌, length, take, drop, slice_index, if◌then◌else◌}
 use Rattle.std.specs.List.{AllByRecursion}
 use Rattle.fk_host.specs.Disk.{Areas, area_of}
 use Rattle.fk_host.specs.declared.disk.Area.{Area}
@@ -44,20 +44,28 @@ pub record MayHold (state : AreaState) (image : List ℕ) : Type 0 where
 abbrev pub overwritten : ℕ → List ℕ → List ℕ → List ℕ
 overwritten at piece bytes = take at bytes ++ piece ++ drop (at + length piece) bytes
 
--- A write, which a failed call may have done in part: in memory it has then done nothing. It begins at the end at the latest.
-abbrev pub after_write : ℕ → List ℕ → Bool → AreaState → AreaState
-after_write place bytes failed state =
+-- what a write puts: all of its bytes, or where the call failed only so many of them from the front on
+abbrev pub put_bytes : List ℕ → Bool → ℕ → List ℕ
+put_bytes bytes failed done = if failed then take done bytes else bytes
+
+-- A write, which a failed call may have done in part. It begins at the end at the latest.
+abbrev pub after_write : ℕ → List ℕ → Bool → ℕ → AreaState → AreaState
+after_write place bytes failed done state =
     let at = min place (length state.reads) in
     record state {
-      reads = if failed then state.reads else overwritten at bytes state.reads;
+      reads = overwritten at (put_bytes bytes failed done) state.reads;
       greatest = max state.greatest (at + length bytes);
       written = record { at = at; count = length bytes } ∷ state.written;
     }
 
--- a cut, which a failed call may have done in part: in memory it has then done nothing
-abbrev pub after_cut : ℕ → Bool → AreaState → AreaState
-after_cut len failed state = record state {
-  reads = if failed then state.reads else take len state.reads;
+-- the length to which a cut goes: the one that was asked for, or where the call failed only so many bytes down to it from this one
+abbrev pub cut_length : ℕ → Bool → ℕ → ℕ → ℕ
+cut_length len failed done before = if failed then max len (before - done) else len
+
+-- a cut, which a failed call may have done in part
+abbrev pub after_cut : ℕ → Bool → ℕ → AreaState → AreaState
+after_cut len failed done state = record state {
+  reads = take (cut_length len failed done (length state.reads)) state.reads;
   least = min state.least len;
 }
 
@@ -74,8 +82,8 @@ is_same_area _ _ = false
 -- what a call of a host does to this area
 abbrev pub after_call : Area → Call → AreaState → AreaState
 after_call area Other state = state
-after_call area (Write of at bytes failed) state = if is_same_area of area then after_write at bytes failed state else state
-after_call area (Cut of len failed) state = if is_same_area of area then after_cut len failed state else state
+after_call area (Write of at bytes failed done) state = if is_same_area of area then after_write at bytes failed done state else state
+after_call area (Cut of len failed done) state = if is_same_area of area then after_cut len failed done state else state
 after_call area (Sync of failed) state = if is_same_area of area then after_sync failed state else state
 
 abbrev pub after_calls : Area → List Call → AreaState → AreaState

@@ -1,10 +1,11 @@
 -- A host in memory: its disk, of which each call is kept, and the children above it.
-use Rattle.std.specs.Prelude.{ℕ, ◌+◌, ◌==◌, ◌||◌, nat_lt, Bool, true, List, [], ◌∷◌, ◌++◌, length, if◌then◌else◌, Option, Some, None}
+use Rattle.std.specs.Prelude.{ℕ, ◌+◌, ◌==◌, ◌||◌, nat_lt, Bool, true, List, [], ◌∷◌, ◌++◌, length, find, if◌then◌else◌, Option, Some, None}
 use Rattle.std.specs.List.{list_any}
 use Rattle.fk_trace.specs.Trace.{Event, Item}
 use Rattle.fk_host.specs.Count.{counted}
 use Rattle.fk_host.specs.Disk.{Areas, Told, Above}
 use Rattle.fk_host.specs.Host.{items_of, above_by}
+use Rattle.fk_memory.specs.declared.host.FailingCall.{FailingCall}
 use Rattle.fk_memory.specs.declared.host.Call.{Call}
 use Rattle.fk_memory.specs.declared.host.Call.TheVariants.{Other}
 use Rattle.fk_memory.specs.Area.{areas_after, MayLeave}
@@ -16,9 +17,9 @@ pub record HostState : Type 0 where
   pub first : Areas
   -- each call of the host, one for each moment
   pub calls : List Call
-  -- how many of them were calls of the disk, and the numbers of those that are to fail, counted from 1
+  -- how many of them were calls of the disk, and those that are to fail
   pub disk_calls : ℕ
-  pub failing : List ℕ
+  pub failing : List FailingCall
   pub faults : ℕ
   -- what the calls for turns and children have brought, and the children
   pub trace : List Item
@@ -41,7 +42,15 @@ above_of host = above_children host.children
 
 -- the next call of the disk is to fail
 abbrev pub fails_next : HostState → Bool
-fails_next host = host.is_short || list_any (λ call. call == host.disk_calls + 1) host.failing
+fails_next host = host.is_short || list_any (λ failing. failing.call == host.disk_calls + 1) host.failing
+
+abbrev pub done_by : Option FailingCall → ℕ
+done_by None = 0
+done_by (Some failing) = failing.done
+
+-- How much the next call of the disk does where it fails: as much as it is told where it is first told to fail, or else nothing.
+abbrev pub done_next : HostState → ℕ
+done_next host = done_by (find (λ failing. failing.call == host.disk_calls + 1) host.failing)
 
 -- a write that is made next and ends at this place is to fail: also where that is past 2^40
 abbrev pub fails_to_write : HostState → ℕ → Bool

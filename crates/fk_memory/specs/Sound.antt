@@ -7,7 +7,7 @@ use Rattle.fk_host.specs.declared.disk.Area.TheVariants.{Head, One, Two}
 use Rattle.fk_memory.specs.declared.host.Call.{Call}
 use Rattle.fk_memory.specs.declared.host.Call.TheVariants.{Other, Write, Cut, Sync}
 use Rattle.fk_host.specs.Disk.{Areas, Told, area_of}
-use Rattle.fk_memory.specs.Area.{AreaState, MayHold, at_rest, is_same_area, overwritten, after_write, after_cut, after_sync, after_call, after_calls, area_after, areas_after, MayLeave}
+use Rattle.fk_memory.specs.Area.{AreaState, MayHold, at_rest, is_same_area, overwritten, put_bytes, after_write, cut_length, after_cut, after_sync, after_call, after_calls, area_after, areas_after, MayLeave}
 use Rattle.fk_memory.specs.Host.{HostState, told_of, leaves_of}
 
 -- what keeps an area in order
@@ -28,57 +28,54 @@ pub overwritten_outside : (at : ℕ) (piece bytes : List ℕ) (i : ℕ) → at �
 overwritten_outside at piece bytes i le inside (inl low) = grind (arith, places)
 overwritten_outside at piece bytes i le inside (inr high) = grind (arith, places)
 
-pub sound_after_write : (place : ℕ) (bytes : List ℕ) (failed : Bool) (m : AreaState) → IsSound m → IsSound (after_write place bytes failed m)
-sound_after_write place bytes true m sound = record {
-  order = omega (arith, sound.order);
-  base = sound.base;
-  top = omega (arith, sound.top);
-  reads = record {
-    no_shorter = sound.reads.no_shorter;
-    no_longer = omega (arith, sound.reads.no_longer);
-    kept = λ i inside below out. sound.reads.kept i inside below out.1;
-  };
-}
-sound_after_write place bytes false m sound =
+pub put_within : (bytes : List ℕ) (failed : Bool) (done : ℕ) → length (put_bytes bytes failed done) ≤ length bytes
+put_within bytes true done = omega (arith, length-take done bytes)
+put_within bytes false done = omega arith
+
+-- what is outside of a range is outside of its front
+pub outside_front : (at front count i : ℕ) → front ≤ count → (i < at) ⊎ (at + count ≤ i) → (i < at) ⊎ (at + front ≤ i)
+outside_front at front count i le (inl low) = inl low
+outside_front at front count i le (inr high) = inr (omega arith)
+
+pub sound_after_write : (place : ℕ) (bytes : List ℕ) (failed : Bool) (done : ℕ) (m : AreaState) → IsSound m → IsSound (after_write place bytes failed done m)
+sound_after_write place bytes failed done m sound =
     let at : ℕ = min place (length m.reads) in
+    let piece : List ℕ = put_bytes bytes failed done in
+    let short : length piece ≤ length bytes = put_within bytes failed done in
     let within : at ≤ length m.reads = omega arith in
-    let size : length (overwritten at bytes m.reads) ≡ max (length m.reads) (at + length bytes) = length-overwritten at bytes m.reads within in
+    let size : length (overwritten at piece m.reads) ≡ max (length m.reads) (at + length piece) = length-overwritten at piece m.reads within in
     record {
       order = omega (arith, sound.order);
       base = sound.base;
       top = omega (arith, sound.top);
       reads = record {
         no_shorter = omega (arith, sound.reads.no_shorter, size);
-        no_longer = omega (arith, sound.reads.no_longer, size);
+        no_longer = omega (arith, sound.reads.no_longer, size, short);
         kept = λ i inside below out.
-            let old : i < length m.reads = elim out.0 [ inl low ↦ omega arith | inr high ↦ omega (arith, size) ] in
-            overwritten_outside at bytes m.reads i within old out.0 ∙ sound.reads.kept i old below out.1;
+            let old : i < length m.reads = elim out.0 [ inl low ↦ omega arith | inr high ↦ omega (arith, size, short) ] in
+            overwritten_outside at piece m.reads i within old (outside_front at (length piece) (length bytes) i short out.0) ∙ sound.reads.kept i old below out.1;
       };
     }
 
-pub sound_after_cut : (len : ℕ) (failed : Bool) (m : AreaState) → IsSound m → IsSound (after_cut len failed m)
-sound_after_cut len true m sound = record {
-  order = omega (arith, sound.order);
-  base = omega (arith, sound.base);
-  top = sound.top;
-  reads = record {
-    no_shorter = omega (arith, sound.reads.no_shorter);
-    no_longer = sound.reads.no_longer;
-    kept = sound.reads.kept;
-  };
-}
-sound_after_cut len false m sound =
-    let size : length (take len m.reads) ≡ min len (length m.reads) = length-take len m.reads in
+cut_reaches : (len : ℕ) (failed : Bool) (done before : ℕ) → len ≤ cut_length len failed done before
+cut_reaches len true done before = omega arith
+cut_reaches len false done before = omega arith
+
+pub sound_after_cut : (len : ℕ) (failed : Bool) (done : ℕ) (m : AreaState) → IsSound m → IsSound (after_cut len failed done m)
+sound_after_cut len failed done m sound =
+    let left : ℕ = cut_length len failed done (length m.reads) in
+    let reaches : len ≤ left = cut_reaches len failed done (length m.reads) in
+    let size : length (take left m.reads) ≡ min left (length m.reads) = length-take left m.reads in
     record {
       order = omega (arith, sound.order);
       base = omega (arith, sound.base);
       top = sound.top;
       reads = record {
-        no_shorter = omega (arith, sound.reads.no_shorter, size);
+        no_shorter = omega (arith, sound.reads.no_shorter, size, reaches);
         no_longer = omega (arith, sound.reads.no_longer, size);
         kept = λ i inside below out.
-            let within : i < min len (length m.reads) = omega (arith, size) in
-            get_or-take len m.reads i 0 (omega arith) ∙ sound.reads.kept i (omega arith) below out;
+            let within : i < min left (length m.reads) = omega (arith, size) in
+            get_or-take left m.reads i 0 (omega arith) ∙ sound.reads.kept i (omega arith) below out;
       };
     }
 
@@ -92,8 +89,8 @@ sound_if false changed m a b = b
 
 sound_after_call : (area : Area) (call : Call) (m : AreaState) → IsSound m → IsSound (after_call area call m)
 sound_after_call area Other m sound = sound
-sound_after_call area (Write of at bytes failed) m sound = sound_if (is_same_area of area) _ m (sound_after_write at bytes failed m sound) sound
-sound_after_call area (Cut of len failed) m sound = sound_if (is_same_area of area) _ m (sound_after_cut len failed m sound) sound
+sound_after_call area (Write of at bytes failed done) m sound = sound_if (is_same_area of area) _ m (sound_after_write at bytes failed done m sound) sound
+sound_after_call area (Cut of len failed done) m sound = sound_if (is_same_area of area) _ m (sound_after_cut len failed done m sound) sound
 sound_after_call area (Sync of failed) m sound = sound_if (is_same_area of area) _ m (sound_after_sync failed m sound) sound
 
 sound_after_calls : (area : Area) (calls : List Call) (m : AreaState) → IsSound m → IsSound (after_calls area calls m)

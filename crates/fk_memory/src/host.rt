@@ -1,12 +1,12 @@
 //! A host in memory: its disk keeps each call, so that what a crash at any moment may leave can be told, and its children fare as
 //! they were scripted.
-ghost use Rattle.std.specs.Prelude.{◌≡◌, ℕ, ◌+◌, ◌^◌, ◌<◌, ◌≤◌, Some, IsTrue, ◌||◌, ◌==◌, min, true, false, [], ◌∷◌, ◌++◌, if◌then◌else◌, length, take, drop, slice_get, is_err, IfOk, OnErr, OnOk, IfSome};
+ghost use Rattle.std.specs.Prelude.{◌≡◌, ℕ, ◌+◌, ◌^◌, ◌<◌, ◌≤◌, Some, IsTrue, ◌||◌, ◌==◌, min, true, false, [], ◌∷◌, ◌++◌, if◌then◌else◌, length, take, drop, find, slice_get, is_err, IfOk, OnErr, OnOk, IfSome};
 ghost use Rattle.std.specs.List.{list_any};
-ghost use Rattle.std.specs.Option.{ForSome};
+ghost use Rattle.std.specs.Option.{ForSome, option_copied};
 ghost use Rattle.fk_host.specs.Count.{counted, HasCause};
 ghost use Rattle.fk_host.specs.Disk.{area_of, Written, Torn, Cut, Same, InArea, Synced, Calls, LeavesHost};
-ghost use Rattle.fk_memory.specs.Area.{AreaState, area_after, areas_after, after_call, overwritten, MayHold, reads_after};
-ghost use Rattle.fk_memory.specs.Host.{told_of, leaves_of, above_of, fails_next, fails_to_write, after_disk_call, after_call_above};
+ghost use Rattle.fk_memory.specs.Area.{AreaState, area_after, areas_after, after_call, overwritten, put_bytes, cut_length, MayHold, reads_after};
+ghost use Rattle.fk_memory.specs.Host.{told_of, leaves_of, above_of, fails_next, fails_to_write, done_next, after_disk_call, after_call_above};
 ghost use Rattle.fk_memory.specs.Starts.{starts_of};
 ghost use Rattle.fk_memory.specs.HostRecord.{texts, event_of};
 ghost use Rattle.fk_trace.specs.Trace.Event.{Turn};
@@ -31,21 +31,35 @@ const GREATEST_END: u64 = 1 << 40;
 pub enum Call {
     /// It left the areas as they were.
     Other,
+    /// Where it failed, it has put so many of the bytes, from the front on, or all where there are fewer.
     Write {
         area: Area,
         at: u64,
         bytes: Bytes,
         failed: bool,
+        done: u64,
     },
+    /// Where it failed, it has taken so many bytes away, or all where there were fewer to take.
     Cut {
         area: Area,
         len: u64,
         failed: bool,
+        done: u64,
     },
     Sync {
         area: Area,
         failed: bool,
     },
+}
+
+/// A call of the disk that is to fail.
+#[derive(Clone, Copy)]
+pub struct FailingCall {
+    /// Its number, counted from 1.
+    pub call: u64,
+    /// How many bytes a write puts before it fails, or a cut takes away. It does nothing at 0, and all at a number that is no less
+    /// than there are.
+    pub done: u64,
 }
 
 /// The bytes of the three areas.
@@ -97,17 +111,42 @@ fn apply_to(area: Area, call: &Call, bytes: &mut Vec<u8>) -> Result<(), NoMemory
             area: of,
             at,
             bytes: piece,
-            failed: false,
-        } if *of == area => overwrite(bytes, *at, piece.as_slice()),
+            failed,
+            done,
+        } if *of == area => overwrite(bytes, *at, put_bytes(piece.as_slice(), *failed, *done)),
         Call::Cut {
             area: of,
             len,
-            failed: false,
+            failed,
+            done,
         } if *of == area => {
-            bytes.truncate(*len as usize);
+            let left = cut_length(*len, *failed, *done, bytes.len() as u64);
+            bytes.truncate(left as usize);
             Ok(())
         }
         _ => Ok(()),
+    }
+}
+
+/// What a write puts of its bytes.
+fn put_bytes(bytes: &[u8], failed: bool, done: u64) -> &[u8]
+    ensures { result.now ≡ put_bytes bytes.now failed done }
+{
+    if failed {
+        &bytes[..bytes.len().min(done as usize)]
+    } else {
+        bytes
+    }
+}
+
+/// To which length a cut goes from this one.
+fn cut_length(len: u64, failed: bool, done: u64, before: u64) -> u64
+    ensures { result ≡ cut_length len failed done before }
+{
+    if failed {
+        len.max(before.saturating_sub(done))
+    } else {
+        len
     }
 }
 
@@ -132,7 +171,7 @@ pub struct MemHost {
     present: Texts,
     calls: Vec<Call>,
     disk_calls: u64,
-    failing: Vec<u64>,
+    failing: Vec<FailingCall>,
     faults: u64,
     trace: Vec<KeptItem>,
     children: MemChildren,
@@ -180,12 +219,22 @@ impl MemHost {
         })
     }
 
-    /// Makes the call of the disk of this number fail, counted from 1.
+    /// Makes the call of the disk of this number fail, counted from 1, and do nothing before.
     pub fn fail_disk(&mut self, call: u64) -> Result<(), NoMemory>
-        ensures ok { OnOk result (self.new ≡ record self.old { failing = self.old.failing ++ call ∷ [] }) }
+        ensures ok { OnOk result (self.new ≡ record self.old { failing = self.old.failing ++ record { call = call; done = 0 } ∷ [] }) }
         ensures err { OnErr result (self.new ≡ self.old) }
     {
-        self.failing.push(call)?;
+        self.failing.push(FailingCall { call, done: 0 })?;
+        Ok(())
+    }
+
+    /// Makes a call of the disk fail, and do as much before as is said, if it is a write or a cut. Where a call is made to fail more
+    /// than once, the first time counts.
+    pub fn fail_disk_in_part(&mut self, failing: FailingCall) -> Result<(), NoMemory>
+        ensures ok { OnOk result (self.new ≡ record self.old { failing = self.old.failing ++ failing ∷ [] }) }
+        ensures err { OnErr result (self.new ≡ self.old) }
+    {
+        self.failing.push(failing)?;
         Ok(())
     }
 
@@ -279,10 +328,26 @@ impl MemHost {
     }
 
     fn is_told_to_fail(&self) -> bool
-        ensures { result ≡ list_any (λ call. call == self.now.disk_calls + 1) self.now.failing }
+        ensures { result ≡ list_any (λ failing. failing.call == self.now.disk_calls + 1) self.now.failing }
     {
         let next = self.disk_calls + 1;
-        self.failing.iter().any(|call| *call == next)
+        self.failing.iter().any(|failing| failing.call == next)
+    }
+
+    fn done_next(&self) -> u64
+        ensures { result ≡ done_next self.now }
+    {
+        match self.find_next() {
+            Some(failing) => failing.done,
+            None => 0,
+        }
+    }
+
+    fn find_next(&self) -> Option<&FailingCall>
+        ensures { option_copied result ≡ find (λ failing. failing.call == self.now.disk_calls + 1) self.now.failing }
+    {
+        let next = self.disk_calls + 1;
+        self.failing.iter().find(|failing| failing.call == next)
     }
 
     fn measure(&mut self, area: Area) -> Result<u64, Failed>
@@ -309,9 +374,10 @@ impl MemHost {
     fn write(&mut self, area: Area, at: u64, bytes: &[u8]) -> Result<(), Failed>
         ensures result { is_err result ≡ (fails_to_write self.old (at + length bytes.now) || self.new.is_short) }
         ensures state { let failed = fails_to_write self.old (at + length bytes.now) in
-            self.new ≡ after_disk_call (Writes area at bytes.now failed) failed self.new.is_short self.old }
+            self.new ≡ after_disk_call (Writes area at bytes.now failed (done_next self.old)) failed self.new.is_short self.old }
     {
         let failed = self.fails_next() || at.saturating_add(bytes.len() as u64) > GREATEST_END;
+        let done = self.done_next();
         match Bytes::copy(self.alloc, bytes) {
             Ok(bytes) => self.make(
                 Call::Write {
@@ -319,6 +385,7 @@ impl MemHost {
                     at,
                     bytes,
                     failed,
+                    done,
                 },
                 failed,
             ),
@@ -328,10 +395,19 @@ impl MemHost {
 
     fn shorten(&mut self, area: Area, len: u64) -> Result<(), Failed>
         ensures result { is_err result ≡ (fails_next self.old || self.new.is_short) }
-        ensures state { self.new ≡ after_disk_call (Cuts area len (fails_next self.old)) (fails_next self.old) self.new.is_short self.old }
+        ensures state { self.new ≡ after_disk_call (Cuts area len (fails_next self.old) (done_next self.old)) (fails_next self.old) self.new.is_short self.old }
     {
         let failed = self.fails_next();
-        self.make(Call::Cut { area, len, failed }, failed)
+        let done = self.done_next();
+        self.make(
+            Call::Cut {
+                area,
+                len,
+                failed,
+                done,
+            },
+            failed,
+        )
     }
 
     fn settle(&mut self, area: Area) -> Result<(), Failed>
@@ -467,10 +543,11 @@ impl Disk for MemHost {
         ensures err { OnErr result (Calls told_of leaves_of self.old self.new (InArea area (Torn at (length bytes.now))) (InArea area (Torn at (length bytes.now)))) }
         ensures host { LeavesHost told_of above_of self.old self.new }
         ensures cause { HasCause self.old.faults self.new.faults result }
-        // It fails where it is told to, where it would end past 2^40, and where the host becomes short.
+        // It fails where it is told to, where it would end past 2^40, and where the host becomes short. Then it has done what it is
+        // told to, or nothing.
         ensures result { is_err result ≡ (fails_to_write self.old (at + length bytes.now) || self.new.is_short) }
         ensures state { let failed = fails_to_write self.old (at + length bytes.now) in
-            self.new ≡ after_disk_call (Writes area at bytes.now failed) failed self.new.is_short self.old }
+            self.new ≡ after_disk_call (Writes area at bytes.now failed (done_next self.old)) failed self.new.is_short self.old }
     {
         self.write(area, at, bytes)
     }
@@ -483,7 +560,7 @@ impl Disk for MemHost {
         ensures cause { HasCause self.old.faults self.new.faults result }
         // It fails where it is told to, and where the host becomes short.
         ensures result { is_err result ≡ (fails_next self.old || self.new.is_short) }
-        ensures state { self.new ≡ after_disk_call (Cuts area len (fails_next self.old)) (fails_next self.old) self.new.is_short self.old }
+        ensures state { self.new ≡ after_disk_call (Cuts area len (fails_next self.old) (done_next self.old)) (fails_next self.old) self.new.is_short self.old }
     {
         self.shorten(area, len)
     }

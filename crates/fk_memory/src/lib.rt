@@ -22,7 +22,7 @@ pub use children::{HeldChild, StartScript};
 pub use entropy::MemEntropy;
 pub use feed::MemFeed;
 pub use files::MemFiles;
-pub use host::MemHost;
+pub use host::{FailingCall, MemHost};
 pub use laws::unscripted_children_end_well;
 pub use link::MemLink;
 pub use sink::MemSink;
