@@ -296,7 +296,8 @@ impl MemHost {
         self.is_short
     }
 
-    /// What a crash after so many calls may leave of an area: with every write since the last sync, or with none of them.
+    /// What a crash after so many calls may leave of an area: with every write since the last sync, and of one that failed with what it
+    /// had done, or with none of them.
     pub fn image(&self, moment: u64, area: Area, keep: bool) -> Result<Bytes, NoMemory>
         requires past { moment ≤ length self.now.calls }
         requires told { self.now.is_short ≡ false }
