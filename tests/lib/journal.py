@@ -2,6 +2,9 @@
 import dataclasses
 
 FORMAT = 2
+# the format before it, in which a record has no stamp
+OLDER = 1
+YEAR = 31536000
 GREATEST_MOMENT = 999999999999
 GREATEST_STAMP = 1000031535999
 GREATEST_NEXT = 2**63
@@ -97,6 +100,21 @@ def area(*entries):
     return bytes([FORMAT]) + b"".join(entries) + b"\x00"
 
 
+def older_opening(record):
+    """The entry of a record in the older format."""
+    payload = opening(record)[6:]
+    return entry(1, payload[:40] + payload[48:])
+
+
+def older_settling(number, moment, digest):
+    return entry(3, long(number) + long(moment) + digest)
+
+
+def older_area(*entries):
+    """The bytes of a journal of the older format with these entries."""
+    return bytes([OLDER]) + b"".join(entries) + b"\x00"
+
+
 # --- the reader
 
 
@@ -104,7 +122,7 @@ def entries(data):
     """The place, kind and payload of each entry."""
     if len(data) < 3:
         return []
-    if data[0] != FORMAT:
+    if data[0] not in (FORMAT, OLDER):
         raise Damaged(0)
     found, at = [], 1
     while data[at] == 1:
@@ -156,6 +174,25 @@ def floored(payload):
 READERS = {1: opened, 2: ended, 3: settled, 4: floored}
 
 
+def stamped(kind, payload):
+    """The payload of today's format that says what one of the older format says, or None: a record's stamp is a year past its moment."""
+    at, out = {1: (40, 0), 3: (8, 8)}.get(kind, (0, 0))
+    if kind not in (1, 3):
+        return payload if kind == 2 else None
+    moment = payload[at:at + 8]
+    if len(moment) < 8:
+        return None
+    stamp = min(int.from_bytes(moment, "big") + YEAR, 2**64 - 1)
+    return payload[:at] + long(stamp) + payload[at + out:]
+
+
+def change_of(older, kind, payload):
+    """The change that an entry says, or None."""
+    if older:
+        payload = stamped(kind, payload)
+    return None if payload is None else READERS[kind](payload)
+
+
 class Ledger:
     """The changes so far, with what the rules on the next one ask for."""
 
@@ -196,7 +233,7 @@ def ledger(data):
     """The ledger that the bytes hold."""
     found = Ledger()
     for at, kind, payload in entries(data):
-        change = READERS[kind](payload)
+        change = change_of(data[0] == OLDER, kind, payload)
         if change is None or not found.takes(change):
             raise Damaged(at)
     return found

@@ -20,9 +20,10 @@ use Rattle.fk_log.specs.Shown.{shown_text}
 use Rattle.fk_log.specs.Writing.{Output, Writes, Logs, output}
 use Rattle.fk_log.proofs.Logged.{Logs-append}
 use Rattle.fk_ledger.specs.Holds.{HoldsLedger}
-use Rattle.fk_ledger.specs.Stretch.{IsLedgerOpening}
+use Rattle.fk_ledger.specs.Stretch.{IsLedgerOpening, UnlessOlder}
 use Rattle.fk_journal.specs.Keeps.{LeavesOthers}
-use Rattle.fk_child.specs.View.{View, SparesOthers, AddsItems, Moments}
+use Rattle.fk_child.specs.View.{View, AddsItems, Moments}
+use Rattle.fk_daemon.specs.Moments.{SparesUnlessOlder}
 use Rattle.fk_child.proofs.Others.{others-then}
 use Rattle.fk_trace.specs.Ledger.{AreNoFloors}
 use Rattle.fk_turn.specs.Daemon.{DaemonState}
@@ -111,21 +112,21 @@ module _ (task : Task) (old : Outside) (host : View) (daemon : DaemonState) (how
       (moments-join settles once run (tried_changes run_is.account) old.host.images host.images late.host.images)
       (subst (λ (ledger : List Change). IfTold old.host.told host.told (IsLedgerOpening ledger true old.host.images host.images)) (sym ledger_is) opens.moments) run-moments
 
-  opened-others : IfTold old.host.told host.told (λ x y. IsLedgerOpening daemon.book.changes true old.host.images host.images x y × LeavesOthers old.host.images host.images x y)
-  opened-others = told-both old.host.told host.told (IsLedgerOpening daemon.book.changes true old.host.images host.images) (LeavesOthers old.host.images host.images)
-      (λ x y. IsLedgerOpening daemon.book.changes true old.host.images host.images x y × LeavesOthers old.host.images host.images x y) (λ x y a b. (a, b)) opens.moments opens.others
+  opened-others : IfTold old.host.told host.told (λ x y. IsLedgerOpening daemon.book.changes true old.host.images host.images x y × UnlessOlder (LeavesOthers old.host.images host.images) x y)
+  opened-others = told-both old.host.told host.told (IsLedgerOpening daemon.book.changes true old.host.images host.images) (UnlessOlder (LeavesOthers old.host.images host.images))
+      (λ x y. IsLedgerOpening daemon.book.changes true old.host.images host.images x y × UnlessOlder (LeavesOthers old.host.images host.images) x y) (λ x y a b. (a, b)) opens.moments opens.others
 
   module _ (none : AreNoFloors (tried_changes run_is.account)) where
     run-others : IfTold host.told late.host.told (λ x y. Moments (HoldsCrash run (tried_changes run_is.account)) (length (changes_of run)) host.images late.host.images x y × LeavesOthers host.images late.host.images x y)
     run-others = told-both host.told late.host.told (Moments (HoldsCrash run (tried_changes run_is.account)) (length (changes_of run)) host.images late.host.images) (LeavesOthers host.images late.host.images)
         (λ x y. Moments (HoldsCrash run (tried_changes run_is.account)) (length (changes_of run)) host.images late.host.images x y × LeavesOthers host.images late.host.images x y) (λ x y a b. (a, b)) run_is.adds.moments (run_is.adds.others none)
 
-    -- the other areas are left by the opening and by the run behind it
-    all-others : SparesOthers old.host late.host
-    all-others = told-join old.host.told host.told late.host.told (λ x y. IsLedgerOpening daemon.book.changes true old.host.images host.images x y × LeavesOthers old.host.images host.images x y)
+    -- the other areas are left by the opening, unless it migrates, and by the run behind it
+    all-others : SparesUnlessOlder old.host late.host
+    all-others = told-join old.host.told host.told late.host.told (λ x y. IsLedgerOpening daemon.book.changes true old.host.images host.images x y × UnlessOlder (LeavesOthers old.host.images host.images) x y)
         (λ x y. Moments (HoldsCrash run (tried_changes run_is.account)) (length (changes_of run)) host.images late.host.images x y × LeavesOthers host.images late.host.images x y)
-        (LeavesOthers old.host.images late.host.images)
-        (λ x y z f g. others-then old.host.images host.images late.host.images x y z (opening-later daemon.book.changes true old.host.images host.images x y f.0) f.0.past g.0.past f.1 g.1) opened-others run-others
+        (UnlessOlder (LeavesOthers old.host.images late.host.images))
+        (λ x y z f g current. others-then old.host.images host.images late.host.images x y z (opening-later daemon.book.changes true old.host.images host.images x y f.0) f.0.past g.0.past (f.1 current) g.1) opened-others run-others
 
   causes : HasCauses (ending_of how) old (record { feed = late.feed; host = late.host; sink = sink })
   causes = record {

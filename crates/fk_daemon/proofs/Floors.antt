@@ -1,6 +1,5 @@
 -- No Floor is the last change of turns that were served whole.
-use Rattle.std.proofs.Common.{◌≡◌, List, [], ◌∷◌, ◌++◌, true, false, inl, inr, refl, sym, ap, ◌∙◌}
-use Rattle.fk_trace.specs.declared.change.Change.{Change}
+use Rattle.std.proofs.Common.{◌≡◌, List, [], ◌∷◌, true, false, inl, inr, refl, ap, ◌∙◌}
 use Rattle.fk_trace.specs.Ledger.{after, ends_with_floor}
 use Rattle.fk_trace.specs.Settled.{settled_in}
 use Rattle.fk_trace.specs.Decision.{Rules, answer}

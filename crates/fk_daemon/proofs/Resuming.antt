@@ -8,10 +8,11 @@ use Rattle.fk_host.specs.declared.disk.Area.{Area}
 use Rattle.fk_journal.specs.Keeps.{StandsOn, IsOpening}
 use Rattle.fk_ledger.specs.Book.{Book}
 use Rattle.fk_ledger.specs.Holds.{HoldsLedger, KeepsLedger}
-use Rattle.fk_ledger.specs.Stretch.{IsLedgerOpening}
-use Rattle.fk_child.specs.View.{View, SparesOthers}
+use Rattle.fk_ledger.specs.Stretch.{IsLedgerOpening, IsKeptOpening, UnlessOlder}
+use Rattle.fk_child.specs.View.{View}
 use Rattle.fk_child.specs.Crew.{IsTied}
 use Rattle.fk_turn.specs.Daemon.{DaemonState}
+use Rattle.fk_daemon.specs.Moments.{SparesUnlessOlder}
 use Rattle.fk_daemon.specs.Serving.{OpensInVain}
 use Rattle.fk_daemon.specs.Sessions.{OpensDaemon}
 use Rattle.fk_daemon.proofs.Telling.{told-both, told-weaker, opening-weaker}
@@ -24,8 +25,9 @@ pub record Opened (conf : Conf) (ledger : Book) (old new : View) : Type 0 where
   pub area : StandsOn ledger.area new.told
   pub moments : (held : List Change) → IfTold old.told new.told (λ before later. HoldsLedger before.areas held → IsLedgerOpening held true old.images new.images before later)
   pub trace : IfTold old.told new.told (λ before later. later.trace ≡ before.trace)
-  pub entries : IfTold old.told new.told (IsOpening old.images new.images)
-  pub others : SparesOthers old new
+  pub kept : IfTold old.told new.told (IsKeptOpening old.images new.images)
+  pub entries : IfTold old.told new.told (UnlessOlder (IsOpening old.images new.images))
+  pub others : SparesUnlessOlder old new
   pub disk : new.faults ≡ old.faults
 
 pub resumed : (conf : Conf) (ledger : Book) (daemon : DaemonState) (old new : View) → Opened conf ledger old new
@@ -67,6 +69,7 @@ opened_in_vain conf ledger old new opened = record {
   moments = λ held. told-weaker old.told new.told (λ before later. HoldsLedger before.areas held → IsLedgerOpening held true old.images new.images before later)
       (λ before later. HoldsLedger before.areas held → IsLedgerOpening held false old.images new.images before later)
       (λ x y h g. opening-weaker held old.images new.images x y (h g)) (opened.moments held);
+  kept = opened.kept;
   entries = opened.entries;
   others = opened.others;
 }

@@ -1,5 +1,5 @@
 -- A run from its beginning to its stop.
-use Rattle.std.proofs.Common.{◌≡◌, ℕ, ◌+◌, Bool, true, false, IsTrue, List, [], ◌∷◌, ◌++◌, length, map, refl, sym, ap, ◌∙◌, subst, inl, inr, append_assoc, append-nil, length-append, arith, ◌≤◌}
+use Rattle.std.proofs.Common.{◌≡◌, ℕ, ◌+◌, true, false, IsTrue, List, [], ◌∷◌, ◌++◌, length, map, refl, sym, ap, ◌∙◌, subst, inl, inr, append_assoc, append-nil, arith}
 use Rattle.std.proofs.lemmas.List.{map-append}
 use Rattle.fk_trace.specs.declared.change.Change.{Change}
 use Rattle.fk_trace.specs.Trace.{Item, past_after}

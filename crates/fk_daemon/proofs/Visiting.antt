@@ -1,13 +1,11 @@
 -- What the calls of the daemon leave at each of their moments.
-use Rattle.std.proofs.Common.{◌≡◌, ◌⊎◌, ℕ, ◌<◌, ◌≤◌, Option, Some, None, subst, inl, inr, arith}
+use Rattle.std.proofs.Common.{◌≡◌, ◌⊎◌, ℕ, ◌<◌, ◌≤◌, Option, Some, None, ◌∙◌, subst, inl, inr, arith}
 use Rattle.std.specs.Prelude.{IfSome}
 use Rattle.fk_trace.specs.Trace.{Item}
 use Rattle.fk_run.specs.Run.{trace_of}
 use Rattle.fk_host.specs.Disk.{Areas, Told, IfTold}
-use Rattle.fk_journal.specs.Keeps.{selected, SameEntries, IsOpening}
-use Rattle.fk_journal.proofs.Uniqueness.{same_held}
-use Rattle.fk_ledger.specs.Payloads.{ledger_contents}
-use Rattle.fk_ledger.specs.Holds.{HoldsLedger}
+use Rattle.fk_ledger.specs.Stretch.{KeepsSelected, IsKeptOpening}
+use Rattle.fk_ledger.proofs.EitherFormat.{holds_kept}
 use Rattle.fk_child.specs.View.{View, AddsItems}
 use Rattle.fk_child.proofs.Pieces.{recursion-weaker}
 use Rattle.fk_daemon.specs.declared.task.Task.{Task}
@@ -17,14 +15,11 @@ use Rattle.fk_daemon.specs.Serving.{RunsOn, OpensInVain}
 use Rattle.fk_daemon.specs.Visits.{KeepsState, IsAsBefore, LeavesVisit, LeavesNone, LeavesRun, LeavesAsBefore}
 use Rattle.fk_daemon.proofs.Behind.{order}
 
--- what holds the same entries keeps the State of each ledger
-pub same-state : (from image : Areas) → SameEntries (selected from) (selected image) → KeepsState from image
-same-state from image same ledger state =
-    let held : HoldsLedger from state.0 = state.1 in (
-      state.0,
-      record { entries = same_held (selected from) (selected image) (ledger_contents state.0) same held.entries; each = held.each; follow = held.follow },
-      state.2,
-    )
+-- what keeps the selected area has the State of each ledger
+pub held-state : (from image : Areas) → KeepsSelected from image → KeepsState from image
+held-state from image keeps ledger state =
+    let r = holds_kept from image state.0 keeps state.1 in
+    (r.0, r.1, r.2 ∙ state.2)
 
 module _ (task : Task) (account : Account) (old new : View) (before later : Told) (serving : IsServing task account) (adds : AddsItems (trace_of account.run) before later)
     (moments : RunMoments account.run (tried_changes account) old.images new.images before later) where
@@ -66,7 +61,7 @@ pub leaves-run : (task : Task) (account : Account) (old new : View) → IsServin
 leaves-run task account old new serving runs = told-run task account old new serving old.told new.told runs.trace runs.moments
 
 -- an opening that failed leaves what stood at entry
-opening-one : (old new : View) (before later : Told) → old.images before.moments before.areas → IsOpening old.images new.images before later → LeavesAsBefore old new before later
+opening-one : (old new : View) (before later : Told) → old.images before.moments before.areas → IsKeptOpening old.images new.images before later → LeavesAsBefore old new before later
 opening-one old new before later read opening moment image since until left =
     let itself : old.images before.moments image → IsAsBefore old before image = λ stood. (image, stood, λ ledger state. state) in
     elim (order moment before.moments) [
@@ -75,14 +70,14 @@ opening-one old new before later read opening moment image since until left =
           itself (subst (λ (k : ℕ). old.images k image) same ((opening.past moment image entry).0 left))
       | inr behind ↦ elim (order moment opening.unsynced) [
         | inl unsynced ↦ itself (opening.first.stood moment image behind unsynced left)
-        | inr synced ↦ (before.areas, read, same-state before.areas image (opening.then moment image synced until left))
+        | inr synced ↦ (before.areas, read, held-state before.areas image (opening.then moment image synced until left))
       ]
     ]
 
-told-opening : (old new : View) (s t : Option Told) → IfSome s (λ now. old.images now.moments now.areas) → IfTold s t (IsOpening old.images new.images) → IfTold s t (LeavesAsBefore old new)
+told-opening : (old new : View) (s t : Option Told) → IfSome s (λ now. old.images now.moments now.areas) → IfTold s t (IsKeptOpening old.images new.images) → IfTold s t (LeavesAsBefore old new)
 told-opening old new s None read opening = tt
 told-opening old new None (Some later) read opening = absurd opening
 told-opening old new (Some before) (Some later) read opening = opening-one old new before later read opening
 
 pub leaves-as_before : (old new : View) → IfSome old.told (λ now. old.images now.moments now.areas) → OpensInVain old new → IfTold old.told new.told (LeavesAsBefore old new)
-leaves-as_before old new read vain = told-opening old new old.told new.told read vain.entries
+leaves-as_before old new read vain = told-opening old new old.told new.told read vain.kept

@@ -5,10 +5,11 @@ use Rattle.fk_trace.specs.declared.change.Change.{Change}
 use Rattle.fk_trace.specs.Ledger.{after}
 use Rattle.fk_run.specs.Run.{Run, trace_of, changes_of}
 use Rattle.fk_run.specs.Left.{IsLeft}
-use Rattle.fk_host.specs.Disk.{Areas, Told, KeepsPast}
-use Rattle.fk_journal.specs.Keeps.{UntilSynced}
+use Rattle.fk_host.specs.Disk.{Areas, Told, IfTold, KeepsPast}
+use Rattle.fk_journal.specs.Keeps.{LeavesOthers, UntilSynced}
 use Rattle.fk_ledger.specs.Holds.{HoldsState}
-use Rattle.fk_child.specs.View.{Moments}
+use Rattle.fk_ledger.specs.Stretch.{UnlessOlder}
+use Rattle.fk_child.specs.View.{View, Moments}
 
 -- An image that a crash at the moment leaves of a run: it holds the State of the run's ledger with the first of the changes that
 -- were tried, as many as a crash there leaves of it, and no fewer than `least`.
@@ -27,3 +28,7 @@ pub record RunMoments (run : Run) (tried : List Change) (old new : ℕ → Areas
   pub first : UntilSynced unsynced old new start finish
   pub before : AllByRecursion (λ item. unsynced < item.moments) (trace_of run)
   pub then : Moments (HoldsRun run tried) (length (changes_of run)) new new (record start { moments = unsynced }) finish
+
+-- unless the journal was of the older format, the areas on which it does not stand are left
+abbrev pub SparesUnlessOlder : View → View → Type 0
+SparesUnlessOlder old new = IfTold old.told new.told (UnlessOlder (LeavesOthers old.images new.images))

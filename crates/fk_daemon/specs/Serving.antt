@@ -15,10 +15,10 @@ use Rattle.fk_log.specs.declared.verbosity.Verbosity.{Verbosity}
 use Rattle.fk_log.specs.Line.Line.{DiskFailedLine, DamagedLine}
 use Rattle.fk_log.specs.Log.{log_text}
 use Rattle.fk_log.specs.Shown.{shown_text}
-use Rattle.fk_child.specs.View.{View, SparesOthers, AddsItems}
+use Rattle.fk_child.specs.View.{View, AddsItems}
 use Rattle.fk_journal.specs.Keeps.{IsOpening}
 use Rattle.fk_ledger.specs.Holds.{HoldsLedger, IsLedgerDamagedAt}
-use Rattle.fk_ledger.specs.Stretch.{IsLedgerOpening}
+use Rattle.fk_ledger.specs.Stretch.{IsLedgerOpening, IsKeptOpening, UnlessOlder}
 use Rattle.fk_turn.specs.declared.policy.Policy.{Policy}
 use Rattle.fk_turn.specs.Serving.{calls_for}
 use Rattle.fk_turn.specs.Wanting.{WantsMemoryAt}
@@ -26,7 +26,7 @@ use Rattle.fk_daemon.specs.declared.task.Task.{Task}
 use Rattle.fk_log.specs.Printing.{Prints}
 use Rattle.fk_daemon.specs.Outside.{Outside, Feeds}
 use Rattle.fk_daemon.specs.Account.{Account, IsServing, tried_changes, is_whole}
-use Rattle.fk_daemon.specs.Moments.{RunMoments}
+use Rattle.fk_daemon.specs.Moments.{RunMoments, SparesUnlessOlder}
 
 -- The status of a run that ended so; the Bool says whether a write of its log failed. A run that met a fault keeps that one's status.
 abbrev pub HasStatus : Ending → Bool → Status → Type 0
@@ -70,13 +70,14 @@ WantsMemoryLast policy run old new =
     (λ more. IfTold old new (λ before later. CallsBehind more (after_turns (entry run.ledger) front).ledger last later))
 
 -- The run of the account was served on the host: over the ledger that it held, with the run's items as the trace's new end, and its
--- changes on the disk as far as each moment says. Unless the ledger began anew, the areas on which it does not stand are left.
+-- changes on the disk as far as each moment says. Unless the ledger began anew or was of the older format, the areas on which it does not
+-- stand are left.
 pub record RunsOn (account : Account) (old new : View) : Type 0 where
   pub found : IfTold old.told new.told (λ before later. HoldsLedger before.areas account.run.ledger)
   pub faults : account.run.faults ≡ old.faults
   pub trace : IfTold old.told new.told (AddsItems (trace_of account.run))
   pub moments : IfTold old.told new.told (RunMoments account.run (tried_changes account) old.images new.images)
-  pub others : AreNoFloors (tried_changes account) → SparesOthers old new
+  pub others : AreNoFloors (tried_changes account) → SparesUnlessOlder old new
 
 -- A ledger was opened and served: this is one legal run over it, whose turns the feed gave, that was served on the host, and whose
 -- log was printed.
@@ -92,14 +93,15 @@ pub record ServesRun (task : Task) (old new : Outside) (answer : Status) : Type 
   pub caused : HasCauses account.run.ending old new
 
 -- The calls of an opening that failed: the trace is as before, and where the areas held a ledger, a crash at any moment leaves it, or,
--- until the first calls have ended well, what a crash could leave at entry. Whatever they held, the journal's area has the entries that
--- it had, and the other areas are as before.
+-- until the first calls have ended well, what a crash could leave at entry. Whatever they held is kept. Unless it is of the older format,
+-- the journal's area has the entries that it had, and the other areas are as before.
 pub record OpensInVain (old new : View) : Type 0 where
   pub trace : IfTold old.told new.told (λ before later. later.trace ≡ before.trace)
   pub moments : (ledger : List Change) → IfTold old.told new.told (λ before later. HoldsLedger before.areas ledger
       → IsLedgerOpening ledger false old.images new.images before later)
-  pub entries : IfTold old.told new.told (IsOpening old.images new.images)
-  pub others : SparesOthers old new
+  pub kept : IfTold old.told new.told (IsKeptOpening old.images new.images)
+  pub entries : IfTold old.told new.told (UnlessOlder (IsOpening old.images new.images))
+  pub others : SparesUnlessOlder old new
 
 -- why no ledger was opened, by the answer, and the one line that says so
 abbrev pub SaysWhyUnopened : Verbosity → Status → Bool → Outside → Outside → Type 0

@@ -48,6 +48,7 @@ use Rattle.fk_daemon.specs.declared.session.Stop.TheVariants as stop
 use Rattle.fk_log.specs.Printing.{SinkView, Prints}
 use Rattle.fk_daemon.specs.Outside.{Outside, Feeds, outside_by}
 use Rattle.fk_daemon.specs.Account.{Account, IsServing, tried_changes}
+use Rattle.fk_daemon.specs.Moments.{SparesUnlessOlder}
 use Rattle.fk_daemon.specs.Serving.{HasStatus, WantsMemoryLast, HasCauses}
 
 -- a session with its feed, its host and its output
@@ -74,7 +75,7 @@ pub record OpensDaemon (conf : Conf) (old new : View) (daemon : DaemonState) : T
   pub rests : (out : Output) → AtRest conf (record { daemon = daemon; host = new; output = out }) (entry daemon.book.changes)
   pub found : IfTold old.told new.told (λ before later. HoldsLedger before.areas daemon.book.changes)
   pub moments : IfTold old.told new.told (IsLedgerOpening daemon.book.changes true old.images new.images)
-  pub others : SparesOthers old new
+  pub others : SparesUnlessOlder old new
   pub trace : IfTold old.told new.told (λ before later. later.trace ≡ before.trace)
   pub disk : new.faults ≡ old.faults
 

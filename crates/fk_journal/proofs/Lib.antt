@@ -1,11 +1,12 @@
 pub mod Told
 pub mod Areas
 mod Tails
-mod PutLemmas
+pub mod PutLemmas
 mod Forms
-mod Openings
+pub mod Openings
 mod Copies
 mod Switches
 mod Rows
 mod Contents
 pub mod Uniqueness
+mod Replacing

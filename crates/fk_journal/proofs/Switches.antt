@@ -16,7 +16,7 @@ use Rattle.fk_journal.proofs.PutLemmas.{others_put}
 use Rattle.fk_journal.proofs.Copies.{image_kept, written_end}
 
 -- the byte that is written selects its area
-head_selects : (used : Area) (old new : List ℕ) → Written 0 (head_byte (other_area used) ∷ []) old new → area_by new ≡ other_area used
+pub head_selects : (used : Area) (old new : List ℕ) → Written 0 (head_byte (other_area used) ∷ []) old new → area_by new ≡ other_area used
 head_selects Head old new written = ap area_by written
 head_selects One old new written = ap area_by written
 head_selects Two old new written = ap area_by written
@@ -60,7 +60,7 @@ copy_bytes : (used : Area) (copied : List Content) (a b : ℕ → Areas → Type
 copy_bytes used copied a b x y first =
     closed_copy copied (area_of (other_area used) x.areas) (area_of (other_area used) y.areas) first.begins (in_used (other_area used) (Written (place_behind copied) (0 ∷ [])) x.areas y.areas first.done.reads)
 
-away : (used : Area) → other_area used ≢ Head
+pub away : (used : Area) → other_area used ≢ Head
 away used same = other_not_head used (sym same)
 
 -- behind Head's write each image has in both areas what it had, and Head selects one of them

@@ -2,3 +2,4 @@ pub mod Entries
 pub mod Head
 pub mod Keeps
 pub mod Puts
+pub mod Older

@@ -58,3 +58,9 @@ pub record Touches (used : Area) (calls : ℕ) (old new : ℕ → Areas → Type
   pub few : after.moments ≤ before.moments + calls
   pub past : KeepsPast before.moments old new
   pub others : LeavesAllBut used old new before after
+
+-- an area was written anew: it has these bytes, and nothing of it is unsynced
+pub record HasAnew (used : Area) (bytes : List ℕ) (new : ℕ → Areas → Type 0) (before after : Told) : Type 0 where
+  pub moved : before.moments < after.moments
+  pub reads : area_of used after.areas ≡ bytes
+  pub synced : (image : Areas) → new after.moments image → area_of used image ≡ bytes

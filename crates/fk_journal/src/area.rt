@@ -1,11 +1,11 @@
 //! The areas that a journal reads and writes: Head says which, and that one is read as a whole, and written with a sync behind each write.
-ghost use Rattle.std.specs.Prelude.{◌≡◌, ℕ, ◌+◌, ◌<◌, ◌≤◌, ◌^◌, ◌∷◌, ◌++◌, [], List, length, IfOk, IsErrOf, OnOk};
+ghost use Rattle.std.specs.Prelude.{◌≡◌, ℕ, ◌+◌, ◌<◌, ◌≤◌, ◌^◌, ◌∷◌, ◌++◌, [], List, length, IfOk, IfSome, IsErrOf, OnOk};
 ghost use Rattle.std.specs.Option.{ForSome};
 ghost use Rattle.fk_host.specs.Count.{HasCause, HasCauseBy};
 ghost use Rattle.fk_host.specs.Disk.{IfTold, LeavesAreas, LeavesHost, Written, area_of};
 ghost use Rattle.fk_journal.specs.Entries.{Content, IsContent, body, entry_bytes, area_bytes, place_behind, contents_of, ArePlacedFrom, HoldsEntries, IsDamagedAt};
 ghost use Rattle.fk_journal.specs.Head.{area_by};
-ghost use Rattle.fk_journal.specs.Keeps.{selected_area, selected, StandsOn, LeavesAllBut, LeavesOthers, IsOpening, IsAppend, is_disk_fault};
+ghost use Rattle.fk_journal.specs.Keeps.{selected_area, selected, StandsOn, LeavesAllBut, LeavesOthers, IsSettled, IsOpening, IsAppend, is_disk_fault};
 ghost use Rattle.fk_journal.specs.Puts.{Puts, HasPut, HasHead, HasRead, IsHeld};
 
 use crate::entry::entries_of;
@@ -112,6 +112,7 @@ pub(crate) fn open_area<D: Disk>(alloc: Global, disk: &mut D) -> Result<Opened, 
         length (selected before.areas) < 3 → selected after.areas ≡ area_bytes [])) }
     ensures damaged { (place : ℕ) → IsErrOf result (JournalErr.Damaged place) → IfTold (D.told disk.old) (D.told disk.new) (λ before after.
         IsDamagedAt (selected before.areas) place) }
+    ensures settled { (place : ℕ) → IsErrOf result (JournalErr.Damaged place) → IfSome (D.told disk.new) (λ now. IsSettled now (D.may_leave disk.new)) }
     ensures moments { IfTold (D.told disk.old) (D.told disk.new) (IsOpening (D.may_leave disk.old) (D.may_leave disk.new)) }
     ensures others { IfTold (D.told disk.old) (D.told disk.new) (LeavesOthers (D.may_leave disk.old) (D.may_leave disk.new)) }
     ensures host { LeavesHost D.told D.above disk.old disk.new }

@@ -29,7 +29,7 @@ pub(crate) fn other_area(area: Area) -> Area
 }
 
 /// The byte of Head that selects the area.
-fn head_byte(area: Area) -> u8
+pub(crate) fn head_byte(area: Area) -> u8
     ensures { result ≡ head_byte area }
 {
     match area {

@@ -86,6 +86,16 @@ pub(crate) fn write_entry(buffer: &mut Vec<u8>, kind: u8, payload: &[u8])
     ensures capacity { vec_capacity buffer.new ≡ vec_capacity buffer.old }
 {
     buffer.clear();
+    push_entry(buffer, kind, payload);
+}
+
+/// Appends the entry behind an open gate, for which there is room.
+pub(crate) fn push_entry(buffer: &mut Vec<u8>, kind: u8, payload: &[u8])
+    requires size { length payload.now < 2 ^ 32 }
+    requires room { length buffer.old.items + length payload.now + 6 ≤ vec_capacity buffer.old }
+    ensures bytes { buffer.new.items ≡ buffer.old.items ++ entry_bytes (record { kind = kind; payload = payload.now }) }
+    ensures capacity { vec_capacity buffer.new ≡ vec_capacity buffer.old }
+{
     buffer.push_reserved(1);
     push_all(buffer, &(payload.len() as u32).to_be_bytes());
     buffer.push_reserved(kind);

@@ -1,9 +1,9 @@
-ghost use Rattle.std.specs.Prelude.{◌≡◌, ℕ, ◌+◌, ◌-◌, ◌<◌, ◌≤◌, ◌^◌, List, [], ◌∷◌, ◌++◌, length, true, false, IfErr, IfOk, IsErrOf, OnErr, OnOk};
+ghost use Rattle.std.specs.Prelude.{◌≡◌, ℕ, ◌+◌, ◌-◌, ◌<◌, ◌≤◌, ◌^◌, List, [], ◌∷◌, ◌++◌, length, true, false, IfErr, IfOk, IfSome, IsErrOf, OnErr, OnOk};
 ghost use Rattle.fk_host.specs.Count.{HasCause, HasCauseBy};
 ghost use Rattle.fk_host.specs.Disk.{IfTold, LeavesAreas, LeavesHost, Written, area_of};
 ghost use Rattle.fk_journal.specs.Entries.{Content, IsContent, entry_bytes, area_bytes, contents_of, ArePlacedFrom, HoldsEntries, IsDamagedAt};
 ghost use Rattle.fk_journal.specs.Head.{other_area, head_byte};
-ghost use Rattle.fk_journal.specs.Keeps.{selected, Keeps, Copies, LeavesAllBut, LeavesOthers, IsOpening, IsAppend, HoldsIn, HoldsEither, CopyMoments, is_disk_fault};
+ghost use Rattle.fk_journal.specs.Keeps.{selected, Keeps, Copies, LeavesAllBut, LeavesOthers, IsSettled, IsOpening, IsAppend, HoldsIn, HoldsEither, CopyMoments, is_disk_fault};
 
 use crate::area::{open_area, put_entry, read_area, read_head};
 use crate::copying::{add_copied, empty_area, other_area, switch_to};
@@ -66,6 +66,8 @@ impl Journal {
             length (selected before.areas) < 3 → selected after.areas ≡ area_bytes [])) }
         ensures damaged { (place : ℕ) → IsErrOf result (JournalErr.Damaged place) → IfTold (D.told disk.old) (D.told disk.new) (λ before after.
             IsDamagedAt (selected before.areas) place) }
+        // Where the area is damaged, nothing of it or of Head is unsynced.
+        ensures settled { (place : ℕ) → IsErrOf result (JournalErr.Damaged place) → IfSome (D.told disk.new) (λ now. IsSettled now (D.may_leave disk.new)) }
         ensures moments { IfTold (D.told disk.old) (D.told disk.new) (IsOpening (D.may_leave disk.old) (D.may_leave disk.new)) }
         ensures others { IfTold (D.told disk.old) (D.told disk.new) (LeavesOthers (D.may_leave disk.old) (D.may_leave disk.new)) }
         ensures host { LeavesHost D.told D.above disk.old disk.new }

@@ -1,8 +1,9 @@
 -- One ledger at most is held, and nothing that is held is damaged.
-use Rattle.std.proofs.Common.{◌≡◌, ◌≢◌, ℕ, ◌<◌, ◌^◌, List, [], ◌∷◌, ◌++◌, length, refl, sym, ap, subst, ◌∙◌, append_assoc, arith, inl, inr, Some}
+use Rattle.std.proofs.Common.{◌≡◌, ◌≢◌, ℕ, ◌<◌, ◌^◌, List, [], ◌∷◌, ◌++◌, length, take, map, refl, sym, ap, subst, ◌∙◌, append_assoc, arith, inl, inr, Some}
 use Rattle.std.specs.Int.{w64, to_be_bytes, from_be_bytes}
 use Rattle.std.specs.List.{AllByRecursion, All}
-use Rattle.std.proofs.lemmas.List.{append-nil}
+use Rattle.std.specs.Prelude.{slice_index}
+use Rattle.std.proofs.lemmas.List.{append-nil, length-map, map-append, take_at}
 use Rattle.fk_base.specs.declared.pair.Proto.{Proto}
 use Rattle.fk_base.specs.declared.pair.Proto.TheVariants.{Tcp, Udp}
 use Rattle.fk_base.specs.declared.pair.Pair.{Pair}
@@ -13,14 +14,16 @@ use Rattle.fk_base.proofs.PairTexts.{Pair-same}
 use Rattle.fk_trace.specs.declared.change.OpenRecord.{OpenRecord}
 use Rattle.fk_trace.specs.declared.change.Change.{Change}
 use Rattle.fk_trace.specs.declared.change.Change.TheVariants.{Open, Done, Settled, Floor}
-use Rattle.fk_trace.specs.Ledger.{MayFollow, IsLedgerFrom}
+use Rattle.fk_trace.specs.Ledger.{MayFollow, IsLedgerFrom, compacted}
 use Rattle.fk_host.specs.Disk.{Areas}
-use Rattle.fk_journal.specs.Entries.{Content, place_behind}
+use Rattle.fk_journal.specs.Entries.{Content, format_byte, entries_bytes, place_behind, HoldsEntries, IsDamagedAt}
+use Rattle.fk_journal.specs.Older.{IsOlder, in_format}
 use Rattle.fk_journal.specs.Keeps.{selected}
 use Rattle.fk_journal.proofs.Uniqueness.{one_list, not_both, one_place}
 use Rattle.fk_ledger.specs.declared.reading.Head.{Head}
 use Rattle.fk_ledger.specs.Payloads.{proto_number, words_bytes, record_bytes, settled_bytes, floor_bytes, content_of, ledger_contents, IsRecord, IsChange}
-use Rattle.fk_ledger.specs.Holds.{HoldsLedger, IsBroken, IsLedgerDamagedAt}
+use Rattle.fk_ledger.specs.Older.{stamped, itself}
+use Rattle.fk_ledger.specs.Holds.{HoldsCurrent, HoldsOlder, HoldsChanges, HoldsLedger, IsBroken, Breaks, IsCurrentDamagedAt, IsOldDamagedAt, IsLedgerDamagedAt}
 use Rattle.fk_ledger.specs.Reading.{head_at, words_in, pair_at}
 use Rattle.fk_ledger.proofs.WordLists.{length-concat-take}
 use Rattle.fk_ledger.proofs.PayloadLaws.{some_is, HeadFits, head_again, words_again, pair_again, wide64}
@@ -163,20 +166,119 @@ one_break start (x ∷ xs) (y ∷ ys) c d more others all_a all_b follow_a follo
     let follow : IsLedgerFrom (start ++ x ∷ []) ys = subst (λ (z : Change). IsLedgerFrom (start ++ z ∷ []) ys) (sym first) follow_b.1 in
     ap (λ (z : Change). z ∷ xs) first ∙ ap (λ (zs : List Change). y ∷ zs) (one_break (start ++ x ∷ []) xs ys c d more others all_a.1 all_b.1 follow_a.1 follow left right parts.1)
 
-pub one_ledger : (image : Areas) (a b : List Change) → HoldsLedger image a → HoldsLedger image b → a ≡ b
-one_ledger image a b x y = contents-injective a b x.each y.each (one_list (selected image) (ledger_contents a) (ledger_contents b) x.entries y.entries)
+-- two breaks of the same entries have one place
+one_place_of : (says : Content → Content) (contents : List Content) (a b : ℕ) → Breaks says contents a → Breaks says contents b → a ≡ b
+one_place_of says contents a b x y =
+    let length_of : (xs ys : List Change) → xs ≡ ys → (m n : List Content) → map says m ≡ ledger_contents xs → map says n ≡ ledger_contents ys → length m ≡ length n =
+    λ xs ys same m n left right. sym (length-map m says) ∙ ap length (left ∙ ap ledger_contents same ∙ sym right) ∙ length-map n says in
+    let parts : (m : List Content) (c : Content) (rest : List Content) → map says (m ++ c ∷ rest) ≡ map says m ++ says c ∷ map says rest = λ m c rest. map-append says m (c ∷ rest) in
+    let all : ledger_contents x.before ++ says x.content ∷ map says x.later ≡ ledger_contents y.before ++ says y.content ∷ map says y.later =
+    ap (λ (front : List Content). front ++ says x.content ∷ map says x.later) (sym x.same) ∙ sym (parts x.earlier x.content x.later) ∙ ap (map says) (sym x.parts ∙ y.parts) ∙ parts y.earlier y.content y.later
+    ∙ ap (λ (front : List Content). front ++ says y.content ∷ map says y.later) y.same in
+    let befores : x.before ≡ y.before = one_break [] x.before y.before (says x.content) (says y.content) (map says x.later) (map says y.later) x.each y.each x.follow y.follow x.broken y.broken all in
+    let sizes : length x.earlier ≡ length y.earlier = length_of x.before y.before befores x.earlier y.earlier x.same y.same in
+    let fronts : x.earlier ≡ y.earlier = sym (take_at x.earlier (x.content ∷ x.later) (length y.earlier) sizes) ∙ ap (take (length y.earlier)) (sym x.parts ∙ y.parts) ∙ take_at y.earlier (y.content ∷ y.later) (length y.earlier) refl in
+    x.placed ∙ ap place_behind fronts ∙ sym y.placed
 
-pub held_undamaged : (image : Areas) (ledger : List Change) (place : ℕ) → HoldsLedger image ledger → IsLedgerDamagedAt image place → ⊥
-held_undamaged image ledger place held (inl damaged) = not_both (selected image) (ledger_contents ledger) place held.entries damaged
-held_undamaged image ledger place held (inr breaks) =
-    let same = one_list (selected image) (ledger_contents ledger) (ledger_contents breaks.before ++ breaks.content ∷ breaks.later) held.entries breaks.entries in
-    let r = next_follows [] ledger breaks.before breaks.content breaks.later held.each breaks.each held.follow same in
+-- entries that are those of a ledger have no break
+no_break : (says : Content → Content) (contents : List Content) (ledger : List Change) (place : ℕ) → map says contents ≡ ledger_contents ledger → AllByRecursion IsChange ledger → IsLedgerFrom [] ledger → Breaks says contents place → ⊥
+no_break says contents ledger place same each follow breaks =
+    let all : ledger_contents ledger ≡ ledger_contents breaks.before ++ says breaks.content ∷ map says breaks.later =
+    sym same ∙ ap (map says) breaks.parts ∙ map-append says breaks.earlier (breaks.content ∷ breaks.later) ∙ ap (λ (front : List Content). front ++ says breaks.content ∷ map says breaks.later) breaks.same in
+    let r = next_follows [] ledger breaks.before (says breaks.content) (map says breaks.later) each breaks.each follow all in
     breaks.broken r.0 r.1 r.2 r.3
 
+itself_map : (contents : List Content) → map itself contents ≡ contents
+itself_map [] = refl
+itself_map (content ∷ contents) = ap (λ (rest : List Content). content ∷ rest) (itself_map contents)
+
+-- ---- an area of this format is not of the older one
+
+first_byte : (area : List ℕ) (format : ℕ) (rest : List ℕ) → area ≡ format ∷ rest → slice_index area 0 ≡ format
+first_byte area format rest is = ap (λ (bytes : List ℕ). slice_index bytes 0) is
+
+pub not_older : (area : List ℕ) (contents : List Content) → HoldsEntries area contents → IsOlder area → ⊥
+not_older area contents (inl short) older = let few = short.0 in let long = older.0 in omega arith
+not_older area contents (inr closed) older =
+    let is = first_byte area format_byte (entries_bytes contents ++ closed.0 ∷ closed.1) closed.3.bytes in
+    let other = older.1 in omega arith
+
+-- one that is damaged behind its first byte is not
+pub damaged_older : (area : List ℕ) (place : ℕ) → IsDamagedAt area place → place ≢ 0 → IsOlder area → ⊥
+damaged_older area place (long, inl format) apart older = apart format.1
+damaged_older area place (long, inr (contents, rest, begins, broken, at)) apart older =
+    let is = first_byte area format_byte (entries_bytes contents ++ rest) begins.bytes in
+    let other = older.1 in omega arith
+
+pub one_current : (image : Areas) (a b : List Change) → HoldsCurrent image a → HoldsCurrent image b → a ≡ b
+one_current image a b x y = contents-injective a b x.each y.each (one_list (selected image) (ledger_contents a) (ledger_contents b) x.entries y.entries)
+
+pub one_older : (image : Areas) (a b : List Change) → HoldsOlder image a → HoldsOlder image b → a ≡ b
+one_older image a b x y =
+    let contents : x.contents ≡ y.contents = one_list (in_format (selected image)) x.contents y.contents x.entries.entries y.entries.entries in
+    contents-injective a b x.each y.each (sym x.same ∙ ap (map stamped) contents ∙ y.same)
+
+pub apart_formats : (image : Areas) (a b : List Change) → HoldsCurrent image a → HoldsOlder image b → ⊥
+apart_formats image a b x y = not_older (selected image) (ledger_contents a) x.entries y.entries.older
+
+pub current_undamaged : (image : Areas) (ledger : List Change) (place : ℕ) → HoldsCurrent image ledger → IsCurrentDamagedAt (selected image) place → ⊥
+current_undamaged image ledger place held (inl damaged) = not_both (selected image) (ledger_contents ledger) place held.entries damaged
+current_undamaged image ledger place held (inr (contents, entries, breaks)) =
+    let same = one_list (selected image) contents (ledger_contents ledger) entries held.entries in
+    no_break itself contents ledger place (itself_map contents ∙ same) held.each held.follow breaks
+
+pub older_undamaged : (image : Areas) (changes : List Change) (place : ℕ) → HoldsOlder image changes → IsOldDamagedAt (selected image) place → ⊥
+older_undamaged image changes place held (inl damaged) = not_both (in_format (selected image)) held.contents place held.entries.entries damaged.damaged
+older_undamaged image changes place held (inr (contents, entries, breaks)) =
+    let same = one_list (in_format (selected image)) contents held.contents entries.entries held.entries.entries in
+    no_break stamped contents changes place (ap (map stamped) same ∙ held.same) held.each held.follow breaks
+
+-- what is damaged in the older format is of it
+old_is_older : (area : List ℕ) (place : ℕ) → IsOldDamagedAt area place → IsOlder area
+old_is_older area place (inl damaged) = damaged.older
+old_is_older area place (inr (contents, entries, breaks)) = entries.older
+
+pub one_shown : (image : Areas) (a b : List Change) → HoldsChanges image a → HoldsChanges image b → a ≡ b
+one_shown image a b (inl x) (inl y) = one_current image a b x y
+one_shown image a b (inl x) (inr y) = absurd (apart_formats image a b x y)
+one_shown image a b (inr x) (inl y) = absurd (apart_formats image b a y x)
+one_shown image a b (inr x) (inr y) = one_older image a b x y
+
+pub shown_undamaged : (image : Areas) (changes : List Change) (place : ℕ) → HoldsChanges image changes → IsLedgerDamagedAt image place → ⊥
+shown_undamaged image changes place (inl held) (inl damaged) = current_undamaged image changes place held damaged.1
+shown_undamaged image changes place (inl held) (inr damaged) = not_older (selected image) (ledger_contents changes) held.entries (old_is_older (selected image) place damaged)
+shown_undamaged image changes place (inr held) (inl damaged) = damaged.0 held.entries.older
+shown_undamaged image changes place (inr held) (inr damaged) = older_undamaged image changes place held damaged
+
+pub held_shown : (image : Areas) (ledger : List Change) → HoldsLedger image ledger → (changes : List Change) × HoldsChanges image changes
+held_shown image ledger (inl held) = (ledger, inl held)
+held_shown image ledger (inr (changes, held, is)) = (changes, inr held)
+
+pub one_ledger : (image : Areas) (a b : List Change) → HoldsLedger image a → HoldsLedger image b → a ≡ b
+one_ledger image a b (inl x) (inl y) = one_current image a b x y
+one_ledger image a b (inl x) (inr (changes, y, is)) = absurd (apart_formats image a changes x y)
+one_ledger image a b (inr (changes, x, is)) (inl y) = absurd (apart_formats image b changes y x)
+one_ledger image a b (inr (changes, x, is)) (inr (others, y, also)) = is ∙ ap (compacted 0) (one_older image changes others x y) ∙ sym also
+
+pub held_undamaged : (image : Areas) (ledger : List Change) (place : ℕ) → HoldsLedger image ledger → IsLedgerDamagedAt image place → ⊥
+held_undamaged image ledger place held damaged = let r = held_shown image ledger held in shown_undamaged image r.0 place r.1 damaged
+
+one_current_place : (area : List ℕ) (a b : ℕ) → IsCurrentDamagedAt area a → IsCurrentDamagedAt area b → a ≡ b
+one_current_place area a b (inl x) (inl y) = one_place area a b x y
+one_current_place area a b (inl x) (inr (contents, entries, breaks)) = absurd (not_both area contents a entries x)
+one_current_place area a b (inr (contents, entries, breaks)) (inl y) = absurd (not_both area contents b entries y)
+one_current_place area a b (inr (contents, entries, breaks)) (inr (others, also, other)) =
+    one_place_of itself contents a b breaks (subst (λ (cs : List Content). Breaks itself cs b) (one_list area others contents also entries) other)
+
+one_old_place : (area : List ℕ) (a b : ℕ) → IsOldDamagedAt area a → IsOldDamagedAt area b → a ≡ b
+one_old_place area a b (inl x) (inl y) = one_place (in_format area) a b x.damaged y.damaged
+one_old_place area a b (inl x) (inr (contents, entries, breaks)) = absurd (not_both (in_format area) contents a entries.entries x.damaged)
+one_old_place area a b (inr (contents, entries, breaks)) (inl y) = absurd (not_both (in_format area) contents b entries.entries y.damaged)
+one_old_place area a b (inr (contents, entries, breaks)) (inr (others, also, other)) =
+    one_place_of stamped contents a b breaks (subst (λ (cs : List Content). Breaks stamped cs b) (one_list (in_format area) others contents also.entries entries.entries) other)
+
 pub one_damage : (image : Areas) (a b : ℕ) → IsLedgerDamagedAt image a → IsLedgerDamagedAt image b → a ≡ b
-one_damage image a b (inl x) (inl y) = one_place (selected image) a b x y
-one_damage image a b (inl x) (inr y) = absurd (not_both (selected image) (ledger_contents y.before ++ y.content ∷ y.later) a y.entries x)
-one_damage image a b (inr x) (inl y) = absurd (not_both (selected image) (ledger_contents x.before ++ x.content ∷ x.later) b x.entries y)
-one_damage image a b (inr x) (inr y) =
-    let same = one_list (selected image) (ledger_contents x.before ++ x.content ∷ x.later) (ledger_contents y.before ++ y.content ∷ y.later) x.entries y.entries in
-    x.placed ∙ ap (λ (ledger : List Change). place_behind (ledger_contents ledger)) (one_break [] x.before y.before x.content y.content x.later y.later x.each y.each x.follow y.follow x.broken y.broken same) ∙ sym y.placed
+one_damage image a b (inl x) (inl y) = one_current_place (selected image) a b x.1 y.1
+one_damage image a b (inl x) (inr y) = absurd (x.0 (old_is_older (selected image) b y))
+one_damage image a b (inr x) (inl y) = absurd (y.0 (old_is_older (selected image) a x))
+one_damage image a b (inr x) (inr y) = one_old_place (selected image) a b x y

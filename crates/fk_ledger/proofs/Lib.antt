@@ -14,3 +14,6 @@ mod OutlineLaws
 mod AnewLaws
 mod CopyLaws
 mod CompactionLaws
+mod OlderLaws
+mod MigrationLaws
+pub mod EitherFormat

@@ -24,7 +24,9 @@ use Rattle.fk_ledger.specs.declared.ledger.Ledger.TheInside.{Inside}
 use Rattle.fk_ledger.specs.Payloads.{content_of, ledger_contents, record_bytes, IsRecord, IsChange}
 use Rattle.fk_ledger.specs.Book.{Book, used, needs, making_record, live_ids}
 use Rattle.fk_ledger.specs.Holds.{KeepsLedger}
-use Rattle.fk_ledger.specs.Private.{book_of, AreLedger, IsInOrder}
+use Rattle.fk_ledger.specs.Private.{book_of, said_in, AreLedger, IsInOrder}
+use Rattle.fk_ledger.specs.declared.older.Format.TheVariants.{Current}
+use Rattle.fk_ledger.proofs.OpeningLaws.{current_entries}
 use Rattle.fk_ledger.specs.Anew.{cost, kept_as}
 use Rattle.fk_ledger.proofs.AnewLaws.{kept_live, kept_length}
 use Rattle.fk_ledger.proofs.WordLists.{length-record, short_words}
@@ -494,7 +496,7 @@ pub small_record : (item : OpenRecord) → IsRecord item → length (record_byte
 small_record item is = let short = short_record item is in omega arith
 
 -- the order of a ledger that was found
-pub order_found : (inside : Inside) (found : List Change) (contents : List Content) → AreLedger contents found → inside.changes.items ≡ found → inside.live.items ≡ live_ids found
+pub order_found : (inside : Inside) (found : List Change) (contents : List Content) → AreLedger (said_in Current) contents found → inside.changes.items ≡ found → inside.live.items ≡ live_ids found
     → inside.next ≡ next_id found → inside.floor ≡ floor_of found → inside.journal.end ≡ place_behind contents → inside.journal.is_copying ≡ false → IndexesIn inside found → IsOrderOf inside found
 order_found inside found contents are items ids next floor end idle index = record {
   changes = items;
@@ -503,7 +505,7 @@ order_found inside found contents are items ids next floor end idle index = reco
   floor = floor;
   used = (
       let place : used found ≡ place_behind (ledger_contents found) + 1 = used-place found in
-      let same : place_behind contents ≡ place_behind (ledger_contents found) = ap place_behind are.entries in
+      let same : place_behind contents ≡ place_behind (ledger_contents found) = ap place_behind (current_entries contents found are) in
       omega (arith, place, same, end));
   idle = idle;
   index = index;

@@ -13,7 +13,7 @@ use Rattle.fk_host.specs.Disk.{Areas, Told, IfTold, LeavesAreas}
 use Rattle.fk_journal.proofs.Told.{past_then, if_told_map, if_told_then}
 use Rattle.fk_journal.specs.Entries.{Content, IsClosedBehind, HoldsEntries}
 use Rattle.fk_journal.specs.Keeps.{Log, Keeps, selected, IsAppend, IsSettled}
-use Rattle.fk_ledger.specs.Holds.{HoldsLedger, HoldsState, KeepsLedger}
+use Rattle.fk_ledger.specs.Holds.{HoldsCurrent, HoldsState, KeepsLedger}
 use Rattle.fk_ledger.specs.Payloads.{content_of, ledger_contents, IsChange}
 use Rattle.fk_ledger.specs.Stretch.{Stretch}
 
@@ -61,8 +61,8 @@ stretch_longer ledger a b s t p q stretch = if_told_map s t (Stretch ledger a fa
 -- ---- the stretch of an append
 
 -- a ledger that is held is one with its State
-pub held_state : (ledger : List Change) (image : Areas) → HoldsLedger image ledger → HoldsState ledger image
-held_state ledger image held = (ledger, held, refl)
+pub held_state : (ledger : List Change) (image : Areas) → HoldsCurrent image ledger → HoldsState ledger image
+held_state ledger image held = (ledger, inl held, refl)
 
 pub all-push : (ledger : List Change) (change : Change) → AllByRecursion IsChange ledger → IsChange change → AllByRecursion IsChange (ledger ++ change ∷ [])
 all-push [] change all one = (one, tt)
@@ -75,7 +75,7 @@ follow-push before (first ∷ ledger) change all may = (all.0, follow-push (befo
 pub contents-push : (ledger : List Change) (change : Change) → ledger_contents (ledger ++ change ∷ []) ≡ ledger_contents ledger ++ content_of change ∷ []
 contents-push ledger change = map-append content_of ledger (change ∷ [])
 
-pub holds-push : (ledger : List Change) (change : Change) (image : Areas) → AllByRecursion IsChange ledger → IsLedger ledger → IsChange change → MayFollow ledger change → HoldsEntries (selected image) (ledger_contents ledger ++ content_of change ∷ []) → HoldsLedger image (ledger ++ change ∷ [])
+pub holds-push : (ledger : List Change) (change : Change) (image : Areas) → AllByRecursion IsChange ledger → IsLedger ledger → IsChange change → MayFollow ledger change → HoldsEntries (selected image) (ledger_contents ledger ++ content_of change ∷ []) → HoldsCurrent image (ledger ++ change ∷ [])
 holds-push ledger change image each follow one may entries = record {
   entries = subst (HoldsEntries (selected image)) (sym (contents-push ledger change)) entries;
   each = all-push ledger change each one;
@@ -83,7 +83,7 @@ holds-push ledger change image each follow one may entries = record {
 }
 
 -- a change that is no Floor stands behind the ledger
-push_state : (ledger : List Change) (change : Change) (image : Areas) → IsNoFloor change → HoldsLedger image (ledger ++ change ∷ []) → HoldsState (after ledger (change ∷ [])) image
+push_state : (ledger : List Change) (change : Change) (image : Areas) → IsNoFloor change → HoldsCurrent image (ledger ++ change ∷ []) → HoldsState (after ledger (change ∷ [])) image
 push_state ledger change image behind_it held =
     subst (λ (ledger : List Change). HoldsState ledger image) (sym (after_one-behind ledger change behind_it)) (held_state (ledger ++ change ∷ []) image held)
 

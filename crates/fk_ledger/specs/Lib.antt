@@ -6,3 +6,4 @@ pub mod Private
 pub mod Reading
 pub mod Index
 pub mod Anew
+pub mod Older

@@ -1,18 +1,23 @@
 -- What the contracts of this crate's private functions alone speak of. No public contract cites it, so no caller has to believe it.
-use Rattle.std.specs.Prelude.{◌≡◌, ◌≢◌, [], ℕ, ◌==◌, nat_eq, Bool, true, false, ◌+◌, ◌≤◌, ◌&&◌, nat_lt, nat_le, min, not, map, List, ◌∷◌, ◌++◌, length, if◌then◌else◌, vec_capacity}
+use Rattle.std.specs.Prelude.{◌≡◌, ◌≢◌, ◌⊎◌, [], ℕ, ◌==◌, nat_eq, Bool, true, false, ◌+◌, ◌≤◌, ◌&&◌, nat_lt, nat_le, min, not, map, List, length, if◌then◌else◌, vec_capacity}
 use Rattle.std.specs.List.{AllByRecursion, AllPass, filter, list_any}
 use Rattle.fk_base.specs.Characters.{is_word_byte}
 use Rattle.fk_trace.specs.declared.change.OpenRecord.{OpenRecord}
 use Rattle.fk_trace.specs.declared.change.Change.{Change}
 use Rattle.fk_trace.specs.declared.change.Change.TheVariants.{Open, Done, Settled, Floor}
 use Rattle.std.specs.Cmp.Lexicographic.{pointwise}
-use Rattle.fk_trace.specs.Ledger.{is_seen, next_id, floor_of, IsLedger}
+use Rattle.fk_trace.specs.Ledger.{is_seen, next_id, floor_of, rise, compacted, IsLedger}
 use Rattle.std.specs.HashSet.{contains, hash_set_len, spare}
-use Rattle.fk_journal.specs.Entries.{Content, place_behind}
+use Rattle.fk_journal.specs.declared.fault.JournalErr.{JournalErr}
+use Rattle.fk_journal.specs.Entries.{Content, area_bytes}
+use Rattle.fk_journal.specs.Older.{IsOlder}
 use Rattle.fk_ledger.specs.declared.ledger.Ledger.TheInside.{Inside}
 use Rattle.fk_ledger.specs.Book.{Book, live_ids, used}
 use Rattle.fk_ledger.specs.Payloads.{ledger_contents, IsChange}
-use Rattle.fk_ledger.specs.Holds.{IsBroken}
+use Rattle.fk_ledger.specs.Older.{stamped}
+use Rattle.fk_ledger.specs.Holds.{IsOldDamagedAt}
+use Rattle.fk_ledger.specs.declared.older.Format.{Format}
+use Rattle.fk_ledger.specs.declared.older.Format.TheVariants.{Current, Older}
 
 -- there is room in memory for so many changes and digests
 abbrev pub has_slots : Inside → Bool
@@ -45,22 +50,16 @@ pub record IsInOrder (ledger : Inside) : Type 0 where
   pub reserved : (12136 ≤ ledger.journal.reserved) × (12136 ≤ vec_capacity ledger.payload)
   pub index : (digest : List ℕ) → contains (pointwise nat_eq) ledger.index digest ≡ is_seen digest ledger.changes.items
 
--- the entries are those of a ledger
-pub record AreLedger (contents : List Content) (ledger : List Change) : Type 0 where
-  pub entries : contents ≡ ledger_contents ledger
+-- the entries, which say what this function gives, are those of a ledger
+pub record AreLedger (says : Content → Content) (contents : List Content) (ledger : List Change) : Type 0 where
+  pub entries : map says contents ≡ ledger_contents ledger
   pub each : AllByRecursion IsChange ledger
   pub follow : IsLedger ledger
 
--- the first of these entries that is broken behind those before it has its gate at this place
-pub record BreakAt (contents : List Content) (place : ℕ) : Type 0 where
-  pub before : List Change
-  pub content : Content
-  pub later : List Content
-  pub parts : contents ≡ ledger_contents before ++ content ∷ later
-  pub each : AllByRecursion IsChange before
-  pub follow : IsLedger before
-  pub broken : IsBroken before content
-  pub placed : place ≡ place_behind (ledger_contents before)
+-- what an entry of this format says
+abbrev pub said_in : Format → Content → Content
+said_in Current content = content
+said_in Older content = stamped content
 
 -- one of the words of a command
 pub record IsCommandWord (word : List ℕ) : Type 0 where
@@ -95,3 +94,20 @@ settles_id id (Floor floor next) = false
 -- the numbers of those of these records that no change of the ledger settles
 abbrev pub ids_of : List Change → List OpenRecord → List ℕ
 ids_of ledger items = map (λ item. item.id) (filter (λ item. not (list_any (settles_id item.id) ledger)) items)
+
+-- these bytes are those of the ledger that the entries of the older format are, as it begins anew with the floor 0
+pub record MigratesTo (contents : List Content) (bytes : List ℕ) : Type 0 where
+  pub changes : List Change
+  pub are : AreLedger stamped contents changes
+  pub first : IsChange (rise 0 changes)
+  pub bytes_are : bytes ≡ area_bytes (ledger_contents (compacted 0 changes))
+
+-- the area has no ledger of the older format: it is damaged there, or is not of that format, at 0
+abbrev pub IsNoOlderAt : List ℕ → ℕ → Type 0
+IsNoOlderAt area place = IsOldDamagedAt area place ⊎ ((IsOlder area → ⊥) × (place ≡ 0))
+
+-- it says that the area is not of this format
+abbrev pub is_other_format : JournalErr → Bool
+is_other_format JournalErr.Disk = false
+is_other_format (JournalErr.Damaged place) = place == 0
+is_other_format JournalErr.NoMemory = false

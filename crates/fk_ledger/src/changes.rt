@@ -7,15 +7,16 @@ ghost use Rattle.fk_trace.specs.Ledger.{live, opened_by, opens, floor_by, floor_
 ghost use Rattle.fk_journal.specs.Entries.{ArePlacedFrom, content_of_entry, contents_of};
 ghost use Rattle.fk_journal.specs.declared.fault.JournalErr.TheVariants.{Disk as DiskFails};
 ghost use Rattle.fk_ledger.specs.Book.{live_ids};
-ghost use Rattle.fk_ledger.specs.Holds.{IsBroken};
+ghost use Rattle.fk_ledger.specs.Holds.{Breaks, IsBroken};
 ghost use Rattle.fk_ledger.specs.Payloads.{content_of, IsChange};
-ghost use Rattle.fk_ledger.specs.Private.{AreLedger, BreakAt, has_digest, ids_of, opens_id, settles_id};
+ghost use Rattle.fk_ledger.specs.Private.{AreLedger, said_in, has_digest, ids_of, opens_id, settles_id};
 ghost use Rattle.fk_ledger.specs.Index.{Outlines};
 ghost use Rattle.std.specs.HashSet.{contains};
 
 use crate::index::holds;
+use crate::older::{Format, change_of};
 use crate::outline::{Outline, empty_outline, note};
-use crate::reading::{PayloadErr, change_in};
+use crate::reading::PayloadErr;
 use crate::{LedgerErr, Owed};
 use fk_base::Digest;
 use fk_journal::Entry;
@@ -23,14 +24,18 @@ use fk_trace::{Change, OpenRecord};
 use std::alloc::{AllocError, Global};
 
 /// The ledger that the entries are, or the place of the first that is broken.
-pub(crate) fn changes_of(alloc: Global, entries: &[Entry]) -> Result<Vec<Change>, LedgerErr>
+pub(crate) fn changes_of(
+    alloc: Global,
+    entries: &[Entry],
+    format: Format,
+) -> Result<Vec<Change>, LedgerErr>
     requires { ArePlacedFrom 1 entries.now }
-    ensures held { IfOk result (λ changes. AreLedger (contents_of entries.now) changes.items) }
+    ensures held { IfOk result (λ changes. AreLedger (said_in format) (contents_of entries.now) changes.items) }
     ensures numbers { IfOk result (λ changes. next_id changes.items < 2 ^ 64) }
-    ensures damaged { (place : ℕ) → IsErrOf result (LedgerErr.Damaged place) → BreakAt (contents_of entries.now) place }
+    ensures damaged { (place : ℕ) → IsErrOf result (LedgerErr.Damaged place) → Breaks (said_in format) (contents_of entries.now) place }
     ensures other { IsErrOf result DiskFails → ⊥ }
 {
-    match outlined_changes_of(alloc, entries) {
+    match outlined_changes_of(alloc, entries, format) {
         Ok((changes, _outline)) => Ok(changes),
         Err(fault) => Err(fault),
     }
@@ -40,18 +45,19 @@ pub(crate) fn changes_of(alloc: Global, entries: &[Entry]) -> Result<Vec<Change>
 pub(crate) fn outlined_changes_of(
     alloc: Global,
     entries: &[Entry],
+    format: Format,
 ) -> Result<(Vec<Change>, Outline), LedgerErr>
     requires { ArePlacedFrom 1 entries.now }
-    ensures held { IfOk result (λ r. AreLedger (contents_of entries.now) r.0.items) }
+    ensures held { IfOk result (λ r. AreLedger (said_in format) (contents_of entries.now) r.0.items) }
     ensures numbers { IfOk result (λ r. next_id r.0.items < 2 ^ 64) }
     ensures outline { IfOk result (λ r. Outlines r.1 r.0.items) }
-    ensures damaged { (place : ℕ) → IsErrOf result (LedgerErr.Damaged place) → BreakAt (contents_of entries.now) place }
+    ensures damaged { (place : ℕ) → IsErrOf result (LedgerErr.Damaged place) → Breaks (said_in format) (contents_of entries.now) place }
     ensures other { IsErrOf result DiskFails → ⊥ }
 {
     let mut changes = Vec::new(alloc);
     let mut outline = empty_outline(alloc);
     for entry in entries {
-        let change = next_change(alloc, &changes, &outline, entry)?;
+        let change = next_change(alloc, &changes, &outline, entry, format)?;
         note(&mut outline, &change)?;
         changes.push(change)?;
     }
@@ -64,13 +70,14 @@ fn next_change(
     changes: &[Change],
     outline: &Outline,
     entry: &Entry,
+    format: Format,
 ) -> Result<Change, LedgerErr>
     requires { Outlines outline.now changes.now }
-    ensures found { IfOk result (λ change. IsChange change × (content_of_entry entry.now ≡ content_of change) × MayFollow changes.now change) }
-    ensures damaged { (place : ℕ) → IsErrOf result (LedgerErr.Damaged place) → (place ≡ entry.now.place) × IsBroken changes.now (content_of_entry entry.now) }
+    ensures found { IfOk result (λ change. IsChange change × (said_in format (content_of_entry entry.now) ≡ content_of change) × MayFollow changes.now change) }
+    ensures damaged { (place : ℕ) → IsErrOf result (LedgerErr.Damaged place) → (place ≡ entry.now.place) × IsBroken changes.now (said_in format (content_of_entry entry.now)) }
     ensures other { IsErrOf result DiskFails → ⊥ }
 {
-    match change_in(alloc, entry.kind, entry.payload.as_slice()) {
+    match change_of(alloc, format, entry.kind, entry.payload.as_slice()) {
         Ok(change) => {
             if may_follow(changes, outline, &change) {
                 Ok(change)

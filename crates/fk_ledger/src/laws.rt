@@ -3,7 +3,7 @@ ghost use Rattle.std.specs.Prelude.{◌≡◌, ℕ, ◌≤◌, Bool, true, false
 ghost use Rattle.fk_host.specs.Disk.{Areas, IfTold, LeavesAreas};
 ghost use Rattle.fk_trace.specs.declared.change.Change.{Change};
 ghost use Rattle.fk_trace.specs.Ledger.{after};
-ghost use Rattle.fk_ledger.specs.Holds.{HoldsLedger, IsLedgerDamagedAt, KeepsLedger};
+ghost use Rattle.fk_ledger.specs.Holds.{HoldsChanges, HoldsLedger, IsLedgerDamagedAt, KeepsLedger};
 ghost use Rattle.fk_ledger.specs.Stretch.{StretchOf, StretchUntil};
 
 use fk_host::Disk;
@@ -13,6 +13,11 @@ pub fn no_area_holds_two_ledgers()
     ensures ledgers { (image : Areas) (a b : List Change) → HoldsLedger image a → HoldsLedger image b → a ≡ b }
     ensures damaged { (image : Areas) (ledger : List Change) (place : ℕ) → HoldsLedger image ledger → IsLedgerDamagedAt image place → ⊥ }
     ensures places { (image : Areas) (a b : ℕ) → IsLedgerDamagedAt image a → IsLedgerDamagedAt image b → a ≡ b }
+    // So it is of the changes that stand there.
+    ensures changes { (image : Areas) (a b : List Change) → HoldsChanges image a → HoldsChanges image b → a ≡ b }
+    ensures sound { (image : Areas) (changes : List Change) (place : ℕ) → HoldsChanges image changes → IsLedgerDamagedAt image place → ⊥ }
+    // Where a ledger is held, changes stand.
+    ensures found { (image : Areas) (ledger : List Change) → HoldsLedger image ledger → (changes : List Change) × HoldsChanges image changes }
 {}
 
 /// Calls that leave the areas are a whole stretch without changes over a ledger that the disk keeps, and it keeps that ledger.

@@ -9,12 +9,13 @@ ghost use Rattle.fk_trace.specs.declared.change.Change.{Change};
 ghost use Rattle.fk_trace.specs.declared.change.Change.TheVariants.{Open, Done, Floor};
 ghost use Rattle.fk_trace.specs.Ledger.{after, live, AreNoFloors, is_seen, floor_of, next_id, MayMake, IsLedger};
 ghost use Rattle.fk_journal.specs.Entries.{area_bytes};
-ghost use Rattle.fk_journal.specs.Keeps.{selected, StandsOn, IsOpening, LeavesOthers, is_disk_fault};
+ghost use Rattle.fk_journal.specs.Keeps.{selected, StandsOn, IsSettled, IsOpening, LeavesOthers, is_disk_fault};
 ghost use Rattle.fk_ledger.specs.Book.{making_record, calls_of, live_ids, is_disk_record_fault};
-ghost use Rattle.fk_ledger.specs.Holds.{HoldsLedger, IsLedgerDamagedAt, KeepsLedger};
+ghost use Rattle.fk_ledger.specs.Holds.{HoldsCurrent, HoldsOlder, HoldsChanges, HoldsLedger, IsCurrentDamagedAt, IsLedgerDamagedAt, KeepsLedger};
+ghost use Rattle.fk_ledger.specs.Private.{is_other_format, IsNoOlderAt};
 ghost use Rattle.fk_ledger.specs.Payloads.{greatest_stamp, record_bytes, IsChange};
 ghost use Rattle.fk_ledger.specs.Anew.{made_by};
-ghost use Rattle.fk_ledger.specs.Stretch.{StretchOf, IsLedgerOpening};
+ghost use Rattle.fk_ledger.specs.Stretch.{StretchOf, IsLedgerOpening, IsKeptOpening, UnlessOlder};
 
 use crate::anew::{Way, begin_anew, room_left};
 use crate::changes::{
@@ -22,13 +23,15 @@ use crate::changes::{
 };
 use crate::compaction::compact;
 use crate::index::{Index, add, holds, index_anew, widen};
+use crate::migration::migrate;
+use crate::older::Format;
 use crate::outline::Outline;
 use crate::writing::{record_len, write_record};
 use crate::{LedgerErr, Owed, RecordFault};
 use fk_base::{Digest, Failed, NoMemory};
 use fk_cycle::CloseEnd;
 use fk_host::Disk;
-use fk_journal::Journal;
+use fk_journal::{Journal, read_older};
 use fk_trace::{Change, OpenRecord};
 use std::alloc::Global;
 use std::marker::Model;
@@ -75,7 +78,8 @@ impl Model for Ledger {
 
 impl Ledger {
     /// Syncs Head and the area that it selects and reads the ledger that it holds, and hands out one `Owed` for each live record, by rising
-    /// number. The journal may use `room` bytes, `live` records may be live at once, and a digest is kept for `keep` seconds at least.
+    /// number. A ledger of the older format is written in this one. The journal may use `room` bytes, `live` records may be live at once,
+    /// and a digest is kept for `keep` seconds at least.
     pub fn open<D: Disk>(
         alloc: Global,
         disk: &mut D,
@@ -97,13 +101,50 @@ impl Ledger {
         ensures moments { (ledger : List Change) → IfTold (D.told disk.old) (D.told disk.new) (λ before after. HoldsLedger before.areas ledger
             → IsLedgerOpening ledger (is_ok result) (D.may_leave disk.old) (D.may_leave disk.new) before after) }
         // What it leaves, whatever the area held.
+        ensures kept { IfTold (D.told disk.old) (D.told disk.new) (IsKeptOpening (D.may_leave disk.old) (D.may_leave disk.new)) }
+        ensures entries { IfTold (D.told disk.old) (D.told disk.new) (UnlessOlder (IsOpening (D.may_leave disk.old) (D.may_leave disk.new))) }
+        ensures others { IfTold (D.told disk.old) (D.told disk.new) (UnlessOlder (LeavesOthers (D.may_leave disk.old) (D.may_leave disk.new))) }
+        ensures host { LeavesHost D.told D.above disk.old disk.new }
+        ensures cause { HasCauseBy is_disk_fault (D.faults disk.old) (D.faults disk.new) result }
+    {
+        let fault = match Self::open_current(alloc, disk, room, live, keep) {
+            Ok(opened) => return Ok(opened),
+            Err(fault) => fault,
+        };
+        if !is_other_format(&fault) {
+            return Err(fault);
+        }
+        migrate(alloc, disk)?;
+        Self::open_current(alloc, disk, room, live, keep)
+    }
+
+    /// The same of an area of this format.
+    fn open_current<D: Disk>(
+        alloc: Global,
+        disk: &mut D,
+        room: u64,
+        live: u32,
+        keep: u32,
+    ) -> Result<(Self, Vec<Owed>), LedgerErr>
+        ensures held { IfOk result (λ r. IfTold (D.told disk.old) (D.told disk.new) (λ before after. HoldsCurrent before.areas r.0.changes)) }
+        ensures owed { IfOk result (λ r. r.1.items ≡ live_ids r.0.changes) }
+        ensures fresh { IfOk result (λ r. (r.0.room ≡ room) × (r.0.limit ≡ live) × (r.0.keep ≡ keep) × (r.0.is_spent ≡ false)) }
+        ensures keeps { IfOk result (λ r. KeepsLedger r.0.changes (D.told disk.new) (D.may_leave disk.new)) }
+        ensures stands { IfOk result (λ r. StandsOn r.0.area (D.told disk.new)) }
+        ensures made { IfOk result (λ r. IfTold (D.told disk.old) (D.told disk.new) (λ before after.
+            length (selected before.areas) < 3 → selected after.areas ≡ area_bytes [])) }
+        ensures damaged { (place : ℕ) → IsErrOf result (LedgerErr.Damaged place) → IfTold (D.told disk.old) (D.told disk.new) (λ before after.
+            IsCurrentDamagedAt (selected before.areas) place) }
+        ensures settled { (place : ℕ) → IsErrOf result (LedgerErr.Damaged place) → IfSome (D.told disk.new) (λ now. IsSettled now (D.may_leave disk.new)) }
+        ensures moments { (ledger : List Change) → IfTold (D.told disk.old) (D.told disk.new) (λ before after. HoldsCurrent before.areas ledger
+            → IsLedgerOpening ledger (is_ok result) (D.may_leave disk.old) (D.may_leave disk.new) before after) }
         ensures entries { IfTold (D.told disk.old) (D.told disk.new) (IsOpening (D.may_leave disk.old) (D.may_leave disk.new)) }
         ensures others { IfTold (D.told disk.old) (D.told disk.new) (LeavesOthers (D.may_leave disk.old) (D.may_leave disk.new)) }
         ensures host { LeavesHost D.told D.above disk.old disk.new }
         ensures cause { HasCauseBy is_disk_fault (D.faults disk.old) (D.faults disk.new) result }
     {
         let (mut journal, entries) = Journal::open(alloc, disk, room)?;
-        let (mut changes, outline) = outlined_changes_of(alloc, &entries)?;
+        let (mut changes, outline) = outlined_changes_of(alloc, &entries, Format::Current)?;
         let mut ids = live_ids(alloc, &changes, &outline)?;
         let Outline {
             next,
@@ -129,18 +170,24 @@ impl Ledger {
         Ok((ledger, owed))
     }
 
-    /// The ledger that the selected area holds. Nothing is written or synced.
+    /// The changes that stand in the selected area. Nothing is written or synced.
     pub fn view<D: Disk>(alloc: Global, disk: &mut D) -> Result<Vec<Change>, LedgerErr>
-        ensures held { IfOk result (λ changes. IfTold (D.told disk.old) (D.told disk.new) (λ before after. HoldsLedger before.areas changes.items)) }
+        ensures shown { IfOk result (λ changes. IfTold (D.told disk.old) (D.told disk.new) (λ before after. HoldsChanges before.areas changes.items)) }
         ensures damaged { (place : ℕ) → IsErrOf result (LedgerErr.Damaged place) → IfTold (D.told disk.old) (D.told disk.new) (λ before after.
             IsLedgerDamagedAt before.areas place) }
         ensures areas { IfTold (D.told disk.old) (D.told disk.new) (LeavesAreas (D.may_leave disk.old) (D.may_leave disk.new)) }
-        ensures calls { IfTold (D.told disk.old) (D.told disk.new) (λ before after. after.moments ≤ before.moments + 3) }
+        ensures calls { IfTold (D.told disk.old) (D.told disk.new) (λ before after. after.moments ≤ before.moments + 6) }
         ensures host { LeavesHost D.told D.above disk.old disk.new }
         ensures cause { HasCauseBy is_disk_fault (D.faults disk.old) (D.faults disk.new) result }
     {
-        let entries = Journal::read(alloc, disk)?;
-        changes_of(alloc, &entries)
+        let fault = match view_current(alloc, disk) {
+            Ok(changes) => return Ok(changes),
+            Err(fault) => fault,
+        };
+        if !is_other_format(&fault) {
+            return Err(fault);
+        }
+        view_older(alloc, disk)
     }
 
     /// Whether a record has this digest.
@@ -438,4 +485,43 @@ fn make_ready(
     let mut payload = Vec::new(alloc);
     payload.reserve(LONGEST)?;
     Ok(payload)
+}
+
+/// Whether the area is not of this format.
+fn is_other_format(fault: &LedgerErr) -> bool
+    ensures { result ≡ is_other_format fault.now }
+{
+    match fault {
+        LedgerErr::Damaged(place) => *place == 0,
+        LedgerErr::Disk => false,
+        LedgerErr::NoMemory => false,
+    }
+}
+
+/// The changes of an area of this format.
+fn view_current<D: Disk>(alloc: Global, disk: &mut D) -> Result<Vec<Change>, LedgerErr>
+    ensures held { IfOk result (λ changes. IfTold (D.told disk.old) (D.told disk.new) (λ before after. HoldsCurrent before.areas changes.items)) }
+    ensures damaged { (place : ℕ) → IsErrOf result (LedgerErr.Damaged place) → IfTold (D.told disk.old) (D.told disk.new) (λ before after.
+        IsCurrentDamagedAt (selected before.areas) place) }
+    ensures areas { IfTold (D.told disk.old) (D.told disk.new) (LeavesAreas (D.may_leave disk.old) (D.may_leave disk.new)) }
+    ensures calls { IfTold (D.told disk.old) (D.told disk.new) (λ before after. after.moments ≤ before.moments + 3) }
+    ensures host { LeavesHost D.told D.above disk.old disk.new }
+    ensures cause { HasCauseBy is_disk_fault (D.faults disk.old) (D.faults disk.new) result }
+{
+    let entries = Journal::read(alloc, disk)?;
+    changes_of(alloc, &entries, Format::Current)
+}
+
+/// The changes of an area of the older format.
+fn view_older<D: Disk>(alloc: Global, disk: &mut D) -> Result<Vec<Change>, LedgerErr>
+    ensures held { IfOk result (λ changes. IfTold (D.told disk.old) (D.told disk.new) (λ before after. HoldsOlder before.areas changes.items)) }
+    ensures damaged { (place : ℕ) → IsErrOf result (LedgerErr.Damaged place) → IfTold (D.told disk.old) (D.told disk.new) (λ before after.
+        IsNoOlderAt (selected before.areas) place) }
+    ensures areas { IfTold (D.told disk.old) (D.told disk.new) (LeavesAreas (D.may_leave disk.old) (D.may_leave disk.new)) }
+    ensures calls { IfTold (D.told disk.old) (D.told disk.new) (λ before after. after.moments ≤ before.moments + 3) }
+    ensures host { LeavesHost D.told D.above disk.old disk.new }
+    ensures cause { HasCauseBy is_disk_fault (D.faults disk.old) (D.faults disk.new) result }
+{
+    let entries = read_older(alloc, disk)?;
+    changes_of(alloc, &entries, Format::Older)
 }

@@ -14,6 +14,8 @@ mod fault;
 mod index;
 mod laws;
 mod ledger;
+mod migration;
+mod older;
 mod outline;
 mod owed;
 mod reading;

@@ -1,5 +1,6 @@
 //! Payloads as they are written.
 ghost use Rattle.std.specs.Prelude.{◌≡◌, ◌+◌, ◌≤◌, ◌++◌, length, vec_capacity};
+ghost use Rattle.std.specs.Int.{w64, to_be_bytes};
 ghost use Rattle.fk_base.specs.Bytes.{HasBytes, IsBytes};
 ghost use Rattle.fk_base.specs.CommandWords.{AreCommandWords};
 ghost use Rattle.fk_ledger.specs.Payloads.{floor_bytes, greatest_stamp, proto_number, record_bytes, settled_bytes, IsRecord, words_bytes, word_bytes};
@@ -84,6 +85,17 @@ pub(crate) fn write_floor(buffer: &mut Vec<u8>, floor: u64, next: u64)
     buffer.clear();
     push_all(buffer, &floor.to_be_bytes());
     push_all(buffer, &next.to_be_bytes());
+}
+
+/// Writes the payload of a Done into the buffer, which is emptied before.
+pub(crate) fn write_done(buffer: &mut Vec<u8>, id: u64)
+    requires room { 8 ≤ vec_capacity buffer.old }
+    ensures bytes { buffer.new.items ≡ to_be_bytes w64 id }
+    ensures len { length buffer.new.items ≡ 8 }
+    ensures capacity { vec_capacity buffer.new ≡ vec_capacity buffer.old }
+{
+    buffer.clear();
+    push_all(buffer, &id.to_be_bytes());
 }
 
 fn push_digest(buffer: &mut Vec<u8>, digest: [u8; 32])

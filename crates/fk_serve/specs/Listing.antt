@@ -7,7 +7,7 @@ use Rattle.fk_host.specs.Disk.{IfTold}
 use Rattle.fk_log.specs.Line.{text_of_lines}
 use Rattle.fk_log.specs.Line.Line.{ListedLine}
 use Rattle.fk_journal.specs.declared.fault.JournalErr.{JournalErr}
-use Rattle.fk_ledger.specs.Holds.{HoldsLedger}
+use Rattle.fk_ledger.specs.Holds.{HoldsChanges}
 use Rattle.fk_serve.specs.World.{World}
 use Rattle.fk_program.specs.Telling.{Shows, Stops}
 use Rattle.fk_view.specs.Viewing.{FailsToView, OnlyReads, view_status, view_text}
@@ -16,10 +16,10 @@ use Rattle.fk_view.specs.Viewing.{FailsToView, OnlyReads, view_status, view_text
 abbrev pub list_text : List Change → List ℕ
 list_text ledger = text_of_lines (map ListedLine (live ledger))
 
--- the areas hold this ledger, and its live records were printed
+-- the areas hold these changes, and the records that are live by them were printed
 pub record ListsLedger (old new : World) (answer : Status) : Type 0 where
   pub ledger : List Change
-  pub held : IfTold old.outside.host.told new.outside.host.told (λ before later. HoldsLedger before.areas ledger)
+  pub held : IfTold old.outside.host.told new.outside.host.told (λ before later. HoldsChanges before.areas ledger)
   pub disk : new.outside.host.faults ≡ old.outside.host.faults
   pub shows : Shows (list_text ledger) old.outside.sink new.outside.sink answer
 

@@ -6,7 +6,7 @@ use Rattle.fk_host.specs.Disk.{IfTold}
 use Rattle.fk_journal.specs.declared.fault.JournalErr.{JournalErr}
 use Rattle.fk_log.specs.Printing.{SinkView}
 use Rattle.fk_child.specs.View.{View}
-use Rattle.fk_ledger.specs.Holds.{HoldsLedger}
+use Rattle.fk_ledger.specs.Holds.{HoldsChanges}
 use Rattle.fk_words.specs.declared.command.Command.{Command}
 use Rattle.fk_words.specs.declared.command.Command.TheVariants as command
 use Rattle.fk_words.specs.declared.tool.Tool.TheVariants.{Fko}
@@ -40,10 +40,10 @@ pub record OnlyPrints (old new : Outside) : Type 0 where
   pub entropy : new.entropy ≡ old.entropy
   pub disk : SaysTheSame old.disk new.disk
 
--- the areas hold this ledger, and its changes are shown
+-- the areas hold these changes, and each is shown
 pub record ShowsLedger (old new : View) (sink printed : SinkView) (answer : Status) : Type 0 where
   pub ledger : List Change
-  pub held : IfTold old.told new.told (λ before later. HoldsLedger before.areas ledger)
+  pub held : IfTold old.told new.told (λ before later. HoldsChanges before.areas ledger)
   pub unfailed : new.faults ≡ old.faults
   pub shows : ShowsLines (AreShown ledger) (length ledger) sink printed answer
 

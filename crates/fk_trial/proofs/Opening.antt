@@ -29,7 +29,7 @@ abbrev empty_areas : Areas
 empty_areas = record { head = []; one = []; two = [] }
 
 holds-none : HoldsLedger empty_areas []
-holds-none = record { entries = inl (omega arith, refl); each = tt; follow = tt }
+holds-none = inl (record { entries = inl (omega arith, refl); each = tt; follow = tt })
 
 pub opened : (conf : Conf) (ledger : Book) (daemon : DaemonState) (old new : HostState) → IsNewHost old → Opened conf ledger old new
     → ((image : Areas) (a b : List Change) → HoldsLedger image a → HoldsLedger image b → a ≡ b)

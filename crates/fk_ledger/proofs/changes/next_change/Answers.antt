@@ -4,6 +4,7 @@ use Rattle.fk_trace.specs.declared.change.Change.{Change}
 use Rattle.fk_journal.specs.Entries.{Content}
 use Rattle.fk_journal.specs.declared.fault.JournalErr.{JournalErr}
 use Rattle.fk_journal.specs.declared.fault.JournalErr.TheVariants.{Damaged}
+use Rattle.fk_ledger.specs.Private.{said_in}
 use Rattle.fk_ledger.proofs.EntryLists.{other_broken}
 use Rattle.fk_ledger.proofs.changes.next_change.Goals as goal
 
@@ -20,6 +21,6 @@ pub returns-else-may_follow-clause-damaged : goal.returns-else-may_follow-clause
 returns-else-may_follow-clause-damaged c = λ place is.
     let entry = c.args.entry.now in (
       where_is entry.place place is,
-      other_broken c.args.changes.now (content entry.kind entry.payload) c.in-Ok.change c.in-Ok.ensures.found.0 (ap (content entry.kind) (sym c.as_slice.ensures) ∙ c.in-Ok.ensures.found.1)
+      other_broken c.args.changes.now (said_in c.args.format (content entry.kind entry.payload)) c.in-Ok.change c.in-Ok.ensures.found.0 (ap (λ (payload : List ℕ). said_in c.args.format (content entry.kind payload)) (sym c.as_slice.ensures) ∙ c.in-Ok.ensures.found.1)
           (λ may. absurd (let n : false ≡ true = sym c.if-may_follow.false ∙ c.may_follow.ensures.1 may in cc)),
     )

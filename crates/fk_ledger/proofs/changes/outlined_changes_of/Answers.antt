@@ -5,6 +5,7 @@ use Rattle.fk_trace.specs.Ledger.{MayFollow}
 use Rattle.fk_ledger.specs.declared.outline.Outline.{Outline}
 use Rattle.fk_journal.specs.Entries.{content_of_entry}
 use Rattle.fk_ledger.specs.Holds.{IsBroken}
+use Rattle.fk_ledger.specs.Private.{said_in}
 use Rattle.fk_ledger.proofs.EntryLists.{ledger_step, ledger_break}
 use Rattle.fk_ledger.proofs.RoomLaws.{counted_push}
 use Rattle.std.specs.Prelude.{Result}
@@ -27,15 +28,15 @@ returns-in_err-change-clause-damaged c =
     let p = err_from_is_err_and c.from_residual.result c.from_residual.ensures.1 in
     rw (p.1, p.2) (λ place is.
     let broken = c.in_err-change.ensures.damaged place (same_error c.in_err-change.field-0.0 place is) in
-    ledger_break c.args.entries.now c.loop-entry.entry-index c.entry-item.result c.loop-entry.changes.items place c.requires c.loop-entry-test.true c.entry-item.is c.loop-entry.invariant.0
-    (broken.0, subst (λ (ledger : List Change). IsBroken ledger (content_of_entry c.entry-item.result)) c.deref.ensures.value broken.1))
+    ledger_break (said_in c.args.format) c.args.entries.now c.loop-entry.entry-index c.entry-item.result c.loop-entry.changes.items place c.requires c.loop-entry-test.true c.entry-item.is c.loop-entry.invariant.0
+    (broken.0, subst (λ (ledger : List Change). IsBroken ledger (said_in c.args.format (content_of_entry c.entry-item.result))) c.deref.ensures.value broken.1))
 
 pub loop-entry-preserved : goal.loop-entry-preserved
 loop-entry-preserved c =
     let found = c.in_ok-change.ensures.found in
     let may : MayFollow c.loop-entry.changes.items c.in_ok-change.change = subst (λ (ledger : List Change). MayFollow ledger c.in_ok-change.change) c.deref.ensures.value found.2 in
     rw c.in_ok-push.ensures.items (
-      ledger_step c.args.entries.now c.loop-entry.entry-index c.entry-item.result c.loop-entry.changes.items c.in_ok-change.change c.loop-entry-test.true c.entry-item.is c.loop-entry.invariant.0 found.0 found.1 may,
+      ledger_step (said_in c.args.format) c.args.entries.now c.loop-entry.entry-index c.entry-item.result c.loop-entry.changes.items c.in_ok-change.change c.loop-entry-test.true c.entry-item.is c.loop-entry.invariant.0 found.0 found.1 may,
       counted_push c.loop-entry.changes.items c.in_ok-change.change c.loop-entry.invariant.1 found.0 may,
       c.in_ok-note.ensures c.loop-entry.changes.items c.loop-entry.invariant.2,
     )

@@ -1,18 +1,12 @@
-use Rattle.std.proofs.Common.{List, sym, subst}
-use Rattle.std.proofs.lemmas.Result.{err_from_is_err_and}
-use Rattle.fk_host.specs.Disk.{IfTold}
-use Rattle.fk_journal.specs.Entries.{contents_of, HoldsEntries}
-use Rattle.fk_journal.specs.Keeps.{selected}
-use Rattle.fk_journal.specs.declared.entry.Entry.{Entry}
-use Rattle.fk_ledger.proofs.OpeningLaws.{same_error, area_damaged, entry_damaged}
+use Rattle.std.proofs.Common.{ap}
+use Rattle.fk_ledger.proofs.OpeningLaws.{bare, error_of}
+use Rattle.fk_ledger.proofs.EitherFormat.{other_is, apart_start, damaged_apart, seen_none}
 use Rattle.fk_ledger.proofs.ledger.Ledger.view.Goals as goal
 
-pub returns-in_err-entries-clause-damaged : goal.returns-in_err-entries-clause-damaged
-returns-in_err-entries-clause-damaged g c =
-    let p = err_from_is_err_and c.from_residual.result c.from_residual.ensures.1 in
-    rw (p.1, p.2) (λ place is. area_damaged place (g.D.Disk.told c.args.disk.now) (g.D.Disk.told c.read.new.disk) (c.in_err-entries.ensures.damaged place (same_error _ _ _ _ is)))
+pub returns-then-not-is_other_format-clause-damaged : goal.returns-then-not-is_other_format-clause-damaged
+returns-then-not-is_other_format-clause-damaged g c = λ place is.
+    damaged_apart place (g.D.Disk.told c.args.disk.now) (g.D.Disk.told c.view_current.new.disk) (apart_start c.in-Err.fault place (bare _ _ _ is) c.if-not-is_other_format.ensures) (c.in-Err.ensures.damaged place is)
 
 pub returns-clause-damaged : goal.returns-clause-damaged
 returns-clause-damaged g c = λ place is.
-    entry_damaged (contents_of c.deref.result.now) place (g.D.Disk.told c.args.disk.now) (g.D.Disk.told c.read.new.disk) (c.changes_of.ensures.damaged place is)
-    (subst (λ (es : List Entry). IfTold (g.D.Disk.told c.args.disk.now) (g.D.Disk.told c.read.new.disk) (λ x y. HoldsEntries (selected x.areas) (contents_of es))) (sym c.deref.ensures.value) c.in_ok-entries.ensures.held)
+    seen_none place (g.D.Disk.told c.args.disk.now) (g.D.Disk.told c.view_current.new.disk) (g.D.Disk.told c.view_older.new.disk) (g.D.Disk.may_leave c.args.disk.now) (g.D.Disk.may_leave c.view_current.new.disk) c.in-Err.ensures.areas (c.in-Err.ensures.damaged 0 (ap (error_of _) (other_is c.in-Err.fault c.if-not-is_other_format.ensures))) (c.view_older.ensures.damaged place is)
