@@ -23,6 +23,24 @@ ENTRIES = {
 JOURNALS = {name: area(*it) for name, it in ENTRIES.items()}
 
 
+def served(door):
+    """The entries of a journal over which a daemon serves: a floor, what is kept of a record, a settled one, and three live ones, the second
+    of which is due before the first and the third long after both."""
+    def numbered(number, **others):
+        return record(number, close=(door, b"close", b"%d" % number), **others)
+
+    return (flooring(NOW, 4), settling(3, NOW + 3, digest_of(3)), numbered(4), numbered(5), ending(5), numbered(6, due=NOW + 20),
+            numbered(7, due=NOW + 10**10))
+
+
+def heads():
+    """Head, empty, with each byte and with a second one behind some; over each two files of a right journal, an empty, a damaged and no one."""
+    right, other = JOURNALS.values()
+    files = ((right, other), (other, right), (right, b"\x03\xff\xff"), (b"\x03\xff\xff", right), (b"", other), (other, b""))
+    contents = [b"", *(bytes([it]) for it in range(256)), *(bytes([it, behind]) for it in (0, 1, 2, 255) for behind in (0, 1, 255))]
+    return [(head, *two) for head in contents for two in files]
+
+
 def cuts(data):
     return [data[:at] for at in range(len(data))]
 
