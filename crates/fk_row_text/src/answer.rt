@@ -1,6 +1,7 @@
 ghost use Rattle.std.specs.Prelude.{◌<◌};
 
-use fk_base::{Bytes, NoMemory};
+use fk_base::Bytes;
+use itoa::Buffer;
 use std::alloc::Global;
 use std::fmt::{Debug, Display};
 
@@ -9,6 +10,8 @@ use std::fmt::{Debug, Display};
 pub struct Answer {
     alloc: Global,
     line: Bytes,
+    /// Memory was wanting for a part of it. It is told once for all parts, so that who adds one has nothing to pass on.
+    is_cut: bool,
 }
 
 impl Answer {
@@ -16,6 +19,7 @@ impl Answer {
         Answer {
             alloc,
             line: Bytes::new(alloc),
+            is_cut: false,
         }
     }
 
@@ -24,63 +28,76 @@ impl Answer {
         self.line.as_slice()
     }
 
+    /// Whether memory was wanting for a part of it.
+    pub(crate) fn is_cut(&self) -> bool {
+        self.is_cut
+    }
+
     /// Adds a word as it stands.
-    pub fn word(&mut self, word: &[u8]) -> Result<(), NoMemory> {
-        self.separate()?;
-        self.line.append(word)
+    pub fn word(&mut self, word: &[u8]) {
+        self.separate();
+        self.add(word);
     }
 
     /// Adds a value as it is printed.
-    pub fn shown<T: Display>(&mut self, value: &T) -> Result<(), NoMemory> {
-        let text = format!(in self.alloc; "{value}")?;
-        self.word(text.as_bytes())
+    pub fn shown<T: Display>(&mut self, value: &T) {
+        match format!(in self.alloc; "{value}") {
+            Ok(text) => self.word(text.as_bytes()),
+            Err(_) => self.is_cut = true,
+        }
     }
 
     /// Adds a number in decimal.
-    pub fn number(&mut self, number: u64) -> Result<(), NoMemory> {
-        self.shown(&number)
+    pub fn number(&mut self, number: u64) {
+        let mut buffer = Buffer::new();
+        self.word(buffer.format(number).as_bytes());
     }
 
     /// Adds `yes` or `no`.
-    pub fn flag(&mut self, flag: bool) -> Result<(), NoMemory> {
-        self.word(if flag { b"yes" } else { b"no" })
+    pub fn flag(&mut self, flag: bool) {
+        self.word(if flag { b"yes" } else { b"no" });
     }
 
     /// Adds the name of a variant, with what it holds in parentheses.
-    pub fn name<T: Debug>(&mut self, variant: &T) -> Result<(), NoMemory> {
-        let name = format!(in self.alloc; "{variant:?}")?;
-        self.word(name.as_bytes())
+    pub fn name<T: Debug>(&mut self, variant: &T) {
+        match format!(in self.alloc; "{variant:?}") {
+            Ok(name) => self.word(name.as_bytes()),
+            Err(_) => self.is_cut = true,
+        }
     }
 
     /// Adds a text in quotes.
-    pub fn text(&mut self, text: &[u8]) -> Result<(), NoMemory> {
-        self.separate()?;
-        self.line.append(b"\"")?;
+    pub fn text(&mut self, text: &[u8]) {
+        self.separate();
+        self.add(b"\"");
         for byte in text {
-            self.put_byte(*byte)?;
+            self.put_byte(*byte);
         }
-        self.line.append(b"\"")
+        self.add(b"\"");
     }
 
-    fn put_byte(&mut self, byte: u8) -> Result<(), NoMemory> {
+    fn put_byte(&mut self, byte: u8) {
         match byte {
-            b'\n' => self.line.append(b"\\n"),
-            b'\r' => self.line.append(b"\\r"),
-            b'\t' => self.line.append(b"\\t"),
-            b'"' => self.line.append(b"\\\""),
-            b'\\' => self.line.append(b"\\\\"),
-            b' '..=b'~' => self.line.append(&[byte]),
-            _ => self
-                .line
-                .append(&[b'\\', b'x', digit(byte / 16), digit(byte % 16)]),
+            b'\n' => self.add(b"\\n"),
+            b'\r' => self.add(b"\\r"),
+            b'\t' => self.add(b"\\t"),
+            b'"' => self.add(b"\\\""),
+            b'\\' => self.add(b"\\\\"),
+            b' '..=b'~' => self.add(&[byte]),
+            _ => self.add(&[b'\\', b'x', digit(byte / 16), digit(byte % 16)]),
         }
     }
 
-    fn separate(&mut self) -> Result<(), NoMemory> {
-        if self.line.as_slice().is_empty() {
-            return Ok(());
+    fn separate(&mut self) {
+        if !self.line.as_slice().is_empty() {
+            self.add(b" ");
         }
-        self.line.append(b" ")
+    }
+
+    fn add(&mut self, bytes: &[u8]) {
+        if self.line.append(bytes).is_err() {
+            self.is_cut = true;
+        }
     }
 }
 

@@ -1,20 +1,32 @@
-ghost use Rattle.std.specs.Prelude.{◌≤◌, IfOk};
+ghost use Rattle.std.specs.Prelude.{◌≤◌};
 
 use crate::RowFault;
 use crate::scanner::number_of;
 use crate::term::Term;
-use fk_base::{NoMemory, Words};
+use fk_base::Words;
 use std::alloc::Global;
 
 /// The arguments of a row that are left. A call takes its own, one after the other, and none may be left behind it.
+///
+/// Where one is missing or has another form, an empty text or 0 stands in its place, and the row fails when its call is made. So a call
+/// takes its arguments without a branch for each.
 #[derive(Drop)]
 pub struct Arguments<'a> {
     terms: &'a [Term],
+    fault: Option<RowFault>,
 }
 
 impl<'a> Arguments<'a> {
     pub(crate) fn new(terms: &'a [Term]) -> Self {
-        Arguments { terms }
+        Arguments { terms, fault: None }
+    }
+
+    /// The first reason for which the row fails, when its call is made.
+    pub(crate) fn fault(&self) -> Option<RowFault> {
+        if self.fault.is_none() && self.has_more() {
+            return Some(RowFault::Further);
+        }
+        self.fault
     }
 
     /// Whether one is left.
@@ -22,34 +34,42 @@ impl<'a> Arguments<'a> {
         !self.terms.is_empty()
     }
 
-    fn take(&mut self) -> Result<&'a Term, RowFault> {
-        let (first, rest) = self.terms.split_first().ok_or(RowFault::Missing)?;
-        self.terms = rest;
-        Ok(first)
+    /// Lets the row fail for this reason, unless it does for an earlier one.
+    pub fn refuse(&mut self, fault: RowFault) {
+        if self.fault.is_none() {
+            self.fault = Some(fault);
+        }
     }
 
     /// Takes a text.
-    pub fn text(&mut self) -> Result<&'a [u8], RowFault> {
-        match self.take()? {
-            Term::Text(text) => Ok(text.as_slice()),
-            Term::Word(_) => Err(RowFault::NoText),
+    pub fn text(&mut self) -> &'a [u8] {
+        match self.take() {
+            Some(Term::Text(text)) => text.as_slice(),
+            Some(Term::Word(_)) => self.nothing(RowFault::NoText),
+            None => self.nothing(RowFault::Missing),
         }
     }
 
     /// Takes a word.
-    pub fn word(&mut self) -> Result<&'a [u8], RowFault> {
-        match self.take()? {
-            Term::Word(word) => Ok(word.as_slice()),
-            Term::Text(_) => Err(RowFault::NoWord),
+    pub fn word(&mut self) -> &'a [u8] {
+        match self.take() {
+            Some(Term::Word(word)) => word.as_slice(),
+            Some(Term::Text(_)) => self.nothing(RowFault::NoWord),
+            None => self.nothing(RowFault::Missing),
         }
     }
 
     /// Takes a decimal number up to the greatest that serves.
-    pub fn number(&mut self, most: u64) -> Result<u64, RowFault>
-        ensures { IfOk result (λ number. number ≤ most) }
+    pub fn number(&mut self, most: u64) -> u64
+        ensures { result ≤ most }
     {
-        let digits = self.word()?;
-        number_of(digits, most)
+        match number_of(self.word(), most) {
+            Ok(number) => number,
+            Err(fault) => {
+                self.refuse(fault);
+                0
+            }
+        }
     }
 
     /// Takes this word where it comes next.
@@ -64,12 +84,25 @@ impl<'a> Arguments<'a> {
     }
 
     /// Takes all that are left, words and texts, as the words of a command line.
-    pub fn words(&mut self, alloc: Global) -> Result<Words, NoMemory> {
+    pub fn words(&mut self, alloc: Global) -> Words {
         let mut words = Words::new(alloc);
         for term in self.terms {
-            words.push(term.bytes())?;
+            if words.push(term.bytes()).is_err() {
+                self.refuse(RowFault::NoMemory);
+            }
         }
         self.terms = &[];
-        Ok(words)
+        words
+    }
+
+    fn take(&mut self) -> Option<&'a Term> {
+        let (first, rest) = self.terms.split_first()?;
+        self.terms = rest;
+        Some(first)
+    }
+
+    fn nothing(&mut self, fault: RowFault) -> &'a [u8] {
+        self.refuse(fault);
+        b""
     }
 }

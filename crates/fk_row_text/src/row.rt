@@ -29,7 +29,7 @@ pub(crate) fn read_row<'a>(
         if scanner.len() == 0 {
             break;
         }
-        read_term(alloc, &mut scanner, names)?.put(&mut wanted)?;
+        read_term(alloc, &mut scanner, names)?.put(&mut wanted);
     }
     Ok(Row {
         call,

@@ -1,6 +1,6 @@
 use crate::names::Names;
 use crate::report::{tell, tell_count, tell_row};
-use crate::row::{read_definition, read_row};
+use crate::row::{Row, read_definition, read_row};
 use crate::row_cut::RowCut;
 use crate::{Answer, Arguments, RowFault};
 use fk_base::{Bytes, Failed, Words};
@@ -12,14 +12,14 @@ pub trait Calls {
     /// Forgets what earlier rows have left. It comes before the rows of each file.
     fn begin(&mut self);
 
-    /// Makes the call of this name, takes its arguments, and adds what it answers.
+    /// Makes the call of this name, takes its arguments, and adds what it answers. Answers whether there is such a call.
     fn call(
         &mut self,
         alloc: Global,
         name: &[u8],
         arguments: &mut Arguments<'_>,
         answer: &mut Answer,
-    ) -> Result<(), RowFault>;
+    ) -> bool;
 }
 
 /// Runs the rows of the files of these names, and tells each row that fails and how many rows each file has. Answers whether all of them
@@ -143,18 +143,34 @@ fn answer_row<C: Calls>(
         return Err(RowFault::LooseLine);
     }
     let row = read_row(alloc, text, names)?;
-    let mut arguments = Arguments::new(row.arguments.as_slice());
     let mut came = Answer::new(alloc);
-    calls.call(alloc, row.call, &mut arguments, &mut came)?;
-    if arguments.has_more() {
-        return Err(RowFault::Further);
+    if let Some(fault) = call_fault(alloc, &row, calls, &mut came) {
+        return Err(fault);
     }
-    if came.line() == row.wanted.line() {
-        Ok(Outcome::Holds)
+    Ok(compared(came, row.wanted))
+}
+
+/// Makes the call of a row, and answers why the row fails where it has no answer.
+fn call_fault<C: Calls>(
+    alloc: Global,
+    row: &Row<'_>,
+    calls: &mut C,
+    came: &mut Answer,
+) -> Option<RowFault> {
+    let mut arguments = Arguments::new(row.arguments.as_slice());
+    if !calls.call(alloc, row.call, &mut arguments, came) {
+        return Some(RowFault::UnknownCall);
+    }
+    if came.is_cut() || row.wanted.is_cut() {
+        arguments.refuse(RowFault::NoMemory);
+    }
+    arguments.fault()
+}
+
+fn compared(came: Answer, wanted: Answer) -> Outcome {
+    if came.line() == wanted.line() {
+        Outcome::Holds
     } else {
-        Ok(Outcome::Differs {
-            came,
-            wanted: row.wanted,
-        })
+        Outcome::Differs { came, wanted }
     }
 }

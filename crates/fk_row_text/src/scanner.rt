@@ -1,4 +1,4 @@
-ghost use Rattle.std.specs.Prelude.{◌≤◌, IfOk};
+ghost use Rattle.std.specs.Prelude.{◌≤◌, length, IfOk};
 
 use crate::RowFault;
 
@@ -54,7 +54,7 @@ impl<'a> Scanner<'a> {
 
     /// Takes the spaces and line feeds that come next.
     pub(crate) fn skip_blanks(&mut self) {
-        let _blanks = self.take_up_to(self.rest.iter().position(|byte| !is_blank(*byte)));
+        let _blanks = self.take_before(End::NoBlank);
     }
 
     /// Whether the next byte is a blank or nothing is left.
@@ -64,32 +64,66 @@ impl<'a> Scanner<'a> {
 
     /// Takes what stands before the next blank.
     pub(crate) fn take_word(&mut self) -> &'a [u8] {
-        self.take_up_to(self.rest.iter().position(|byte| is_blank(*byte)))
+        self.take_before(End::Blank)
     }
 
     /// Takes what stands before the end of the line.
     pub(crate) fn take_line(&mut self) -> &'a [u8] {
-        self.take_up_to(self.rest.iter().position(|byte| *byte == b'\n'))
+        self.take_before(End::LineFeed)
     }
 
     /// Takes the letters, digits and low lines that come next.
     pub(crate) fn take_name(&mut self) -> &'a [u8] {
-        self.take_up_to(self.rest.iter().position(|byte| !is_name_byte(*byte)))
+        self.take_before(End::NoNameByte)
     }
 
     /// Takes the digits that come next.
     pub(crate) fn take_number(&mut self) -> Result<usize, RowFault> {
-        let digits = self.take_up_to(self.rest.iter().position(|byte| !byte.is_ascii_digit()));
-        number_of(digits, usize::MAX as u64).map(|number| number as usize)
+        let number = number_of(self.take_before(End::NoDigit), usize::MAX as u64)?;
+        Ok(number as usize)
     }
 
-    /// Takes the bytes before this place, or all where there is no place.
-    fn take_up_to(&mut self, place: Option<usize>) -> &'a [u8] {
-        let place = place.unwrap_or(self.rest.len()).min(self.rest.len());
-        let taken = &self.rest[..place];
-        self.rest = &self.rest[place..];
+    /// Takes the bytes before this end, or all where it doesn't come.
+    fn take_before(&mut self, end: End) -> &'a [u8] {
+        let len = len_before(self.rest, end);
+        let taken = &self.rest[..len];
+        self.rest = &self.rest[len..];
         taken
     }
+}
+
+/// The byte that ends a part of a row.
+#[derive(Clone, Copy)]
+enum End {
+    Blank,
+    NoBlank,
+    LineFeed,
+    NoNameByte,
+    NoDigit,
+}
+
+impl End {
+    fn is_at(self, byte: u8) -> bool {
+        match self {
+            End::Blank => is_blank(byte),
+            End::NoBlank => !is_blank(byte),
+            End::LineFeed => byte == b'\n',
+            End::NoNameByte => !is_name_byte(byte),
+            End::NoDigit => !byte.is_ascii_digit(),
+        }
+    }
+}
+
+/// How many bytes stand before this end.
+fn len_before(text: &[u8], end: End) -> usize
+    ensures { result ≤ length text.now }
+{
+    for (at, byte) in text.iter().enumerate() {
+        if end.is_at(*byte) {
+            return at;
+        }
+    }
+    text.len()
 }
 
 /// Whether a blank comes first or there is nothing.
@@ -117,13 +151,7 @@ pub(crate) fn number_of(digits: &[u8], most: u64) -> Result<u64, RowFault>
     }
     let mut number = 0u64;
     for digit in digits {
-        if !digit.is_ascii_digit() {
-            return Err(RowFault::NoNumber);
-        }
-        let Some(next) = number
-            .checked_mul(10)
-            .and_then(|n| n.checked_add(u64::from(*digit - b'0')))
-        else {
+        let Some(next) = with_digit(number, *digit) else {
             return Err(RowFault::NoNumber);
         };
         number = next;
@@ -133,4 +161,11 @@ pub(crate) fn number_of(digits: &[u8], most: u64) -> Result<u64, RowFault>
     } else {
         Err(RowFault::NoNumber)
     }
+}
+
+fn with_digit(number: u64, digit: u8) -> Option<u64> {
+    if !digit.is_ascii_digit() {
+        return None;
+    }
+    number.checked_mul(10)?.checked_add(u64::from(digit - b'0'))
 }

@@ -2,7 +2,7 @@ use crate::names::Names;
 use crate::piece::{begins_text, read_text};
 use crate::scanner::Scanner;
 use crate::{Answer, RowFault};
-use fk_base::{Bytes, NoMemory};
+use fk_base::Bytes;
 use std::alloc::Global;
 
 /// A part of a row: a word as it stands, or a text.
@@ -21,7 +21,7 @@ impl Term {
     }
 
     /// Adds it to an answer, in the form in which answers are compared.
-    pub(crate) fn put(&self, answer: &mut Answer) -> Result<(), NoMemory> {
+    pub(crate) fn put(&self, answer: &mut Answer) {
         match self {
             Term::Word(word) => answer.word(word.as_slice()),
             Term::Text(text) => answer.text(text.as_slice()),

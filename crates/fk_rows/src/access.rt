@@ -11,110 +11,114 @@ pub(crate) fn call(
     name: &[u8],
     arguments: &mut Arguments<'_>,
     answer: &mut Answer,
-) -> Result<bool, RowFault> {
+) -> bool {
     match name {
-        b"read_access" => match access(alloc, arguments.text()?)? {
-            Ok(access) => answer.number(access.count() as u64)?,
-            Err(err) => put_err(err, answer)?,
-        },
-        b"stanza" => call_stanza(alloc, arguments, answer)?,
-        _ => return Ok(false),
+        b"read_access" => call_read_access(alloc, arguments, answer),
+        b"stanza" => call_stanza(alloc, arguments, answer),
+        _ => return false,
     }
-    Ok(true)
+    true
 }
 
-/// What a text is as an access file.
-pub(crate) fn access(alloc: Global, text: &[u8]) -> Result<Result<Access, AccessErr>, RowFault> {
-    if text.len() > FILE_LIMIT {
-        return Err(RowFault::Barred);
-    }
-    Ok(read_access(alloc, text))
-}
-
-/// Adds the line of a fault and what is wrong with it.
-fn put_err(err: AccessErr, answer: &mut Answer) -> Result<(), NoMemory> {
-    match err {
-        AccessErr::Fault { line, what } => {
-            answer.number(u64::from(line))?;
-            answer.name(&what)
+fn call_read_access(alloc: Global, arguments: &mut Arguments<'_>, answer: &mut Answer) {
+    match access(alloc, arguments) {
+        Ok(access) => answer.number(access.count() as u64),
+        Err(AccessErr::Fault { line, what }) => {
+            answer.number(u64::from(line));
+            answer.name(&what);
         }
-        AccessErr::NoMemory => Err(NoMemory),
+        Err(AccessErr::NoMemory) => answer.name(&NoMemory),
+    }
+}
+
+/// What the next text is as an access file. A text that is too long for one is refused.
+fn access(alloc: Global, arguments: &mut Arguments<'_>) -> Result<Access, AccessErr> {
+    let text = arguments.text();
+    if text.len() > FILE_LIMIT {
+        arguments.refuse(RowFault::Barred);
+        return Err(AccessErr::NoMemory);
+    }
+    read_access(alloc, text)
+}
+
+/// The access file that the next text is.
+pub(crate) fn good_access(alloc: Global, arguments: &mut Arguments<'_>) -> Option<Access> {
+    match access(alloc, arguments) {
+        Ok(access) => Some(access),
+        Err(_) => {
+            arguments.refuse(RowFault::Barred);
+            None
+        }
     }
 }
 
 /// `stanza N TEXT`: what the stanza of this number, from 1, says.
-fn call_stanza(
-    alloc: Global,
-    arguments: &mut Arguments<'_>,
-    answer: &mut Answer,
-) -> Result<(), RowFault> {
-    let number = arguments.number(u32::MAX as u64)?;
-    let Ok(access) = access(alloc, arguments.text()?)? else {
-        return Err(RowFault::Barred);
+fn call_stanza(alloc: Global, arguments: &mut Arguments<'_>, answer: &mut Answer) {
+    let number = arguments.number(u32::MAX as u64);
+    let Some(access) = good_access(alloc, arguments) else {
+        return;
     };
     if number == 0 || number > access.count() as u64 {
-        return Err(RowFault::Barred);
+        arguments.refuse(RowFault::Barred);
+        return;
     }
-    put_stanza(access.get(number as usize - 1), answer)?;
-    Ok(())
+    put_stanza(access.get(number as usize - 1), answer);
 }
 
-fn put_stanza(stanza: &Stanza, answer: &mut Answer) -> Result<(), NoMemory> {
-    answer.word(b"line")?;
-    answer.number(u64::from(stanza.line))?;
-    answer.word(b"sources")?;
-    put_sources(&stanza.sources, answer)?;
-    answer.word(b"allowed")?;
-    put_list(stanza.allowed.as_ref(), answer)?;
-    answer.word(b"barred")?;
-    put_list(stanza.barred.as_ref(), answer)?;
-    put_secrets(stanza, answer)?;
-    answer.word(b"need_source")?;
-    answer.flag(stanza.need_source)?;
-    answer.word(b"expire")?;
-    put_number_if(stanza.expire, answer)?;
-    answer.word(b"timer")?;
-    answer.number(u64::from(stanza.timer))
+fn put_stanza(stanza: &Stanza, answer: &mut Answer) {
+    answer.word(b"line");
+    answer.number(u64::from(stanza.line));
+    answer.word(b"sources");
+    put_sources(&stanza.sources, answer);
+    answer.word(b"allowed");
+    put_list(stanza.allowed.as_ref(), answer);
+    answer.word(b"barred");
+    put_list(stanza.barred.as_ref(), answer);
+    put_secrets(stanza, answer);
+    answer.word(b"need_source");
+    answer.flag(stanza.need_source);
+    answer.word(b"expire");
+    put_number_if(stanza.expire, answer);
+    answer.word(b"timer");
+    answer.number(u64::from(stanza.timer));
 }
 
-fn put_sources(sources: &Sources, answer: &mut Answer) -> Result<(), NoMemory> {
+fn put_sources(sources: &Sources, answer: &mut Answer) {
     match sources {
         Sources::Any => answer.word(b"any"),
         Sources::Nets(nets) => {
             for net in nets.as_slice() {
-                put_net(*net, answer)?;
+                put_net(*net, answer);
             }
-            Ok(())
         }
     }
 }
 
-fn put_list(list: Option<&PairList>, answer: &mut Answer) -> Result<(), NoMemory> {
+fn put_list(list: Option<&PairList>, answer: &mut Answer) {
     match list {
         Some(list) => put_pairs(list.as_slice(), answer),
         None => answer.word(b"none"),
     }
 }
 
-fn put_secrets(stanza: &Stanza, answer: &mut Answer) -> Result<(), NoMemory> {
+fn put_secrets(stanza: &Stanza, answer: &mut Answer) {
     for at in 0..stanza.ring.count() {
-        put_timed_keys(stanza.ring.get(at), answer)?;
+        put_timed_keys(stanza.ring.get(at), answer);
     }
-    answer.word(b"user")?;
-    put_bytes_if(stanza.user.as_ref(), answer)
+    answer.word(b"user");
+    put_bytes_if(stanza.user.as_ref(), answer);
 }
 
 /// Adds a pair of keys, and where it has one its last moment.
-fn put_timed_keys(timed: &TimedKeys, answer: &mut Answer) -> Result<(), NoMemory> {
+fn put_timed_keys(timed: &TimedKeys, answer: &mut Answer) {
     let keys = timed.keys.keys();
-    answer.word(b"key")?;
-    answer.text(keys.key.as_slice())?;
-    answer.word(b"hmac")?;
-    answer.name(&keys.kind)?;
-    answer.text(keys.mac_key.as_slice())?;
+    answer.word(b"key");
+    answer.text(keys.key.as_slice());
+    answer.word(b"hmac");
+    answer.name(&keys.kind);
+    answer.text(keys.mac_key.as_slice());
     if let Some(until) = timed.until {
-        answer.word(b"until")?;
-        answer.number(until)?;
+        answer.word(b"until");
+        answer.number(until);
     }
-    Ok(())
 }

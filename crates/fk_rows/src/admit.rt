@@ -1,13 +1,13 @@
 //! The call of fk_admit: whether a datagram is let in.
 ghost use Rattle.std.specs.Prelude.{◌≡◌, ◌<◌};
 
-use crate::access::access;
+use crate::access::good_access;
 use crate::reading::{address, moment};
 use crate::showing::{put_address, put_pairs};
 use fk_access::Access;
 use fk_admit::{AdmitFault, admit};
-use fk_base::{Grant, Ip4, Moment, Steps};
-use fk_row_text::{Answer, Arguments, RowFault};
+use fk_base::{Grant, Ip4, Moment, NoMemory, Steps};
+use fk_row_text::{Answer, Arguments};
 use std::alloc::Global;
 use std::marker::Brand;
 use std::sync::ledger::{Blank, Ledger};
@@ -21,43 +21,40 @@ pub(crate) fn call(
     name: &[u8],
     arguments: &mut Arguments<'_>,
     answer: &mut Answer,
-) -> Result<bool, RowFault> {
+) -> bool {
     match name {
-        b"admit" => call_admit(alloc, arguments, answer)?,
-        _ => return Ok(false),
+        b"admit" => call_admit(alloc, arguments, answer),
+        _ => return false,
     }
-    Ok(true)
+    true
 }
 
 /// `admit ACCESS SOURCE MOMENT DATAGRAM`: the stanza, the address, the seconds and the pairs of the grant, or why there is none.
-fn call_admit(
-    alloc: Global,
-    arguments: &mut Arguments<'_>,
-    answer: &mut Answer,
-) -> Result<(), RowFault> {
-    let Ok(access) = access(alloc, arguments.text()?)? else {
-        return Err(RowFault::Barred);
+fn call_admit(alloc: Global, arguments: &mut Arguments<'_>, answer: &mut Answer) {
+    let access = good_access(alloc, arguments);
+    let source = address(arguments);
+    let moment = moment(arguments);
+    let datagram = arguments.text();
+    let (Some(access), Some(moment)) = (access, moment) else {
+        return;
     };
-    let source = address(arguments)?;
-    let moment = moment(arguments)?;
-    match admitted::<Brand>(
-        alloc,
-        &access,
-        source,
-        moment,
-        arguments.text()?,
-        Blank::new(1),
-    ) {
+    put_admitted(
+        &admitted::<Brand>(alloc, &access, source, moment, datagram, Blank::new(1)),
+        answer,
+    );
+}
+
+fn put_admitted(admitted: &Result<Grant, AdmitFault>, answer: &mut Answer) {
+    match admitted {
         Ok(grant) => {
-            answer.number(u64::from(grant.stanza))?;
-            put_address(grant.ip, answer)?;
-            answer.number(u64::from(grant.seconds))?;
-            put_pairs(grant.pairs.as_slice(), answer)?;
+            answer.number(u64::from(grant.stanza));
+            put_address(grant.ip, answer);
+            answer.number(u64::from(grant.seconds));
+            put_pairs(grant.pairs.as_slice(), answer);
         }
-        Err(AdmitFault::Refused(why)) => answer.name(&why)?,
-        Err(AdmitFault::NoMemory) => return Err(RowFault::NoMemory),
+        Err(AdmitFault::Refused(why)) => answer.name(why),
+        Err(AdmitFault::NoMemory) => answer.name(&NoMemory),
     }
-    Ok(())
 }
 
 fn admitted<L: Ledger>(

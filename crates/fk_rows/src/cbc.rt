@@ -2,9 +2,10 @@
 ghost use Rattle.std.specs.Prelude.{◌≡◌, ◌+◌, ◌/◌, ◌<◌, length, OnOk};
 
 use crate::reading::bytes;
+use crate::showing::put_outcome;
 use fk_base::{Bytes, Steps};
 use fk_cbc::{OpenFault, derive, open, seal};
-use fk_row_text::{Answer, Arguments, RowFault};
+use fk_row_text::{Answer, Arguments};
 use std::alloc::Global;
 use std::marker::Brand;
 use std::sync::ledger::{Blank, Ledger};
@@ -15,37 +16,44 @@ pub(crate) fn call(
     name: &[u8],
     arguments: &mut Arguments<'_>,
     answer: &mut Answer,
-) -> Result<bool, RowFault> {
+) -> bool {
     match name {
-        b"derive" => {
-            let key = arguments.text()?;
-            let (cipher_key, initial_vector) = derive(key, bytes(arguments)?);
-            answer.text(&cipher_key)?;
-            answer.text(&initial_vector)?;
-        }
-        b"seal" => {
-            let key = arguments.text()?;
-            let salt = bytes(arguments)?;
-            answer.text(seal(alloc, key, salt, arguments.text()?)?.as_slice())?;
-        }
-        b"open" => {
-            let key = arguments.text()?;
-            match opened::<Brand>(alloc, key, arguments.text()?, Blank::new(1)) {
-                Ok(plain) => answer.text(plain.as_slice())?,
-                Err(fault) => answer.name(&fault)?,
-            }
-        }
-        b"zeros_back" => {
-            let key = arguments.text()?;
-            match zeros_come_back::<Brand>(alloc, key, bytes(arguments)?, Blank::new(1)) {
-                Ok(true) => answer.word(b"same")?,
-                Ok(false) => answer.word(b"other")?,
-                Err(fault) => answer.name(&fault)?,
-            }
-        }
-        _ => return Ok(false),
+        b"derive" => call_derive(arguments, answer),
+        b"seal" => call_seal(alloc, arguments, answer),
+        b"open" => call_open(alloc, arguments, answer),
+        b"zeros_back" => call_zeros_back(alloc, arguments, answer),
+        _ => return false,
     }
-    Ok(true)
+    true
+}
+
+fn call_derive(arguments: &mut Arguments<'_>, answer: &mut Answer) {
+    let key = arguments.text();
+    let (cipher_key, initial_vector) = derive(key, bytes(arguments));
+    answer.text(&cipher_key);
+    answer.text(&initial_vector);
+}
+
+fn call_seal(alloc: Global, arguments: &mut Arguments<'_>, answer: &mut Answer) {
+    let key = arguments.text();
+    let salt = bytes(arguments);
+    put_outcome(&seal(alloc, key, salt, arguments.text()), answer);
+}
+
+fn call_open(alloc: Global, arguments: &mut Arguments<'_>, answer: &mut Answer) {
+    let key = arguments.text();
+    let sealed = arguments.text();
+    put_outcome(&opened::<Brand>(alloc, key, sealed, Blank::new(1)), answer);
+}
+
+fn call_zeros_back(alloc: Global, arguments: &mut Arguments<'_>, answer: &mut Answer) {
+    let key = arguments.text();
+    let salt = bytes(arguments);
+    match zeros_come_back::<Brand>(alloc, key, salt, Blank::new(1)) {
+        Ok(true) => answer.word(b"same"),
+        Ok(false) => answer.word(b"other"),
+        Err(fault) => answer.name(&fault),
+    }
 }
 
 fn opened<L: Ledger>(

@@ -1,5 +1,6 @@
 //! The calls of fk_codec: plaintexts.
-use crate::packet_fields::{fields, put_fields};
+use crate::packet_fields::{fields, put_opened};
+use crate::showing::put_outcome;
 use fk_codec::{decode, encode};
 use fk_row_text::{Answer, Arguments, RowFault};
 use std::alloc::Global;
@@ -10,20 +11,21 @@ pub(crate) fn call(
     name: &[u8],
     arguments: &mut Arguments<'_>,
     answer: &mut Answer,
-) -> Result<bool, RowFault> {
+) -> bool {
     match name {
-        b"decode" => match decode(alloc, arguments.text()?) {
-            Ok(fields) => put_fields(&fields, answer)?,
-            Err(fault) => answer.name(&fault)?,
-        },
-        b"encode" => {
-            let fields = fields(alloc, arguments)?;
-            if fields.check().is_err() {
-                return Err(RowFault::Barred);
-            }
-            answer.text(encode(alloc, &fields)?.as_slice())?;
-        }
-        _ => return Ok(false),
+        b"decode" => put_opened(&decode(alloc, arguments.text()), answer),
+        b"encode" => call_encode(alloc, arguments, answer),
+        _ => return false,
     }
-    Ok(true)
+    true
+}
+
+fn call_encode(alloc: Global, arguments: &mut Arguments<'_>, answer: &mut Answer) {
+    if let Some(fields) = fields(alloc, arguments) {
+        if fields.check().is_ok() {
+            put_outcome(&encode(alloc, &fields), answer);
+        } else {
+            arguments.refuse(RowFault::Barred);
+        }
+    }
 }

@@ -1,6 +1,6 @@
 //! The lines of a log, as rows write them: the name of the line and its values, in the order in which it prints them.
 use crate::reading::{address, choice, moment, pair, purpose};
-use fk_base::Digest;
+use fk_base::{Digest, Moment};
 use fk_log::{LogItem, Tally, UsageFault};
 use fk_row_text::{Arguments, RowFault};
 use fk_trace::{LogWhy, OpenRecord};
@@ -12,129 +12,122 @@ pub(crate) trait Lines {
 }
 
 /// Takes a line of a log, and puts it.
-pub(crate) fn put_item<L: Lines>(
-    alloc: Global,
-    arguments: &mut Arguments<'_>,
-    lines: &mut L,
-) -> Result<(), RowFault> {
-    let name = arguments.word()?;
-    if put_of_turn(name, arguments, lines)?
-        || put_of_datagram(name, arguments, lines)?
-        || put_with_words(alloc, name, arguments, lines)?
-        || put_of_file(name, arguments, lines)?
-        || put_of_end(name, arguments, lines)?
+pub(crate) fn put_item<L: Lines>(alloc: Global, arguments: &mut Arguments<'_>, lines: &mut L) {
+    let name = arguments.word();
+    if !(put_of_turn(alloc, name, arguments, lines)
+        || put_of_file(name, arguments, lines)
+        || put_of_end(name, arguments, lines))
     {
-        return Ok(());
+        arguments.refuse(RowFault::NoWord);
     }
-    Err(RowFault::NoWord)
 }
 
+/// Lines of a turn and of a journal.
 fn put_of_turn<L: Lines>(
+    alloc: Global,
     name: &[u8],
     arguments: &mut Arguments<'_>,
     lines: &mut L,
-) -> Result<bool, RowFault> {
+) -> bool {
     match name {
         b"ready" => lines.put(&LogItem::Ready {
-            live: arguments.number(u64::MAX)?,
+            live: arguments.number(u64::MAX),
         }),
+        b"turn" | b"ended" | b"poll_failed" | b"settled" => {
+            put_at_moment(name, arguments, lines);
+        }
+        b"refused" | b"granted" => put_of_datagram(name, arguments, lines),
+        b"opened" | b"closed" => put_attempt(alloc, name, arguments, lines),
+        b"listed" => put_listed(alloc, arguments, lines),
+        _ => return false,
+    }
+    true
+}
+
+fn put_at_moment<L: Lines>(name: &[u8], arguments: &mut Arguments<'_>, lines: &mut L) {
+    let Some(moment) = moment(arguments) else {
+        return;
+    };
+    match name {
         b"turn" => lines.put(&LogItem::Turn {
-            moment: moment(arguments)?,
-            number: arguments.number(u64::MAX)?,
+            moment,
+            number: arguments.number(u64::MAX),
         }),
         b"ended" => lines.put(&LogItem::Ended {
-            moment: moment(arguments)?,
-            purpose: purpose(arguments)?,
-            good: choice(arguments, b"good", b"bad")?,
+            moment,
+            purpose: purpose(arguments),
+            good: choice(arguments, b"good", b"bad"),
         }),
         b"poll_failed" => lines.put(&LogItem::PollFailed {
-            moment: moment(arguments)?,
-            purpose: purpose(arguments)?,
+            moment,
+            purpose: purpose(arguments),
         }),
-        b"settled" => lines.put(&LogItem::Settled {
-            moment: moment(arguments)?,
-            id: arguments.number(u64::MAX)?,
+        _ => lines.put(&LogItem::Settled {
+            moment,
+            id: arguments.number(u64::MAX),
         }),
-        _ => return Ok(false),
-    }
-    Ok(true)
-}
-
-fn put_of_datagram<L: Lines>(
-    name: &[u8],
-    arguments: &mut Arguments<'_>,
-    lines: &mut L,
-) -> Result<bool, RowFault> {
-    match name {
-        b"refused" => lines.put(&LogItem::Refused {
-            moment: moment(arguments)?,
-            source: address(arguments)?,
-            why: why(arguments)?,
-        }),
-        b"granted" => lines.put(&LogItem::Granted {
-            moment: moment(arguments)?,
-            source: address(arguments)?,
-            id: arguments.number(u64::MAX)?,
-            stanza: arguments.number(u32::MAX as u64)? as u32,
-            due: arguments.number(u64::MAX)?,
-        }),
-        _ => return Ok(false),
-    }
-    Ok(true)
-}
-
-fn why(arguments: &mut Arguments<'_>) -> Result<LogWhy, RowFault> {
-    match arguments.word()? {
-        b"Shape" => Ok(LogWhy::Shape),
-        b"Prefix" => Ok(LogWhy::Prefix),
-        b"Replay" => Ok(LogWhy::Replay),
-        b"NoStanza" => Ok(LogWhy::NoStanza),
-        b"Expired" => Ok(LogWhy::Expired),
-        b"Mac" => Ok(LogWhy::Mac),
-        b"Cipher" => Ok(LogWhy::Cipher),
-        b"Plain" => Ok(LogWhy::Plain),
-        b"Kind" => Ok(LogWhy::Kind),
-        b"Age" => Ok(LogWhy::Age),
-        b"User" => Ok(LogWhy::User),
-        b"Source" => Ok(LogWhy::Source),
-        b"Port" => Ok(LogWhy::Port),
-        b"Stale" => Ok(LogWhy::Stale),
-        b"Full" => Ok(LogWhy::Full),
-        _ => Err(RowFault::NoWord),
     }
 }
 
-/// Lines that end with the words of a command.
-fn put_with_words<L: Lines>(
-    alloc: Global,
-    name: &[u8],
-    arguments: &mut Arguments<'_>,
-    lines: &mut L,
-) -> Result<bool, RowFault> {
-    match name {
-        b"opened" | b"closed" => put_attempt(
-            alloc,
-            name == b"opened".as_slice(),
-            arguments,
-            lines,
-        )?,
-        b"listed" => put_listed(alloc, arguments, lines)?,
-        _ => return Ok(false),
+fn put_of_datagram<L: Lines>(name: &[u8], arguments: &mut Arguments<'_>, lines: &mut L) {
+    let moment = moment(arguments);
+    let source = address(arguments);
+    let Some(moment) = moment else {
+        return;
+    };
+    if name == b"refused".as_slice() {
+        if let Some(why) = why(arguments) {
+            lines.put(&LogItem::Refused {
+                moment,
+                source,
+                why,
+            });
+        }
+    } else {
+        lines.put(&LogItem::Granted {
+            moment,
+            source,
+            id: arguments.number(u64::MAX),
+            stanza: arguments.number(u32::MAX as u64) as u32,
+            due: arguments.number(u64::MAX),
+        });
     }
-    Ok(true)
 }
 
-fn put_attempt<L: Lines>(
-    alloc: Global,
-    opens: bool,
-    arguments: &mut Arguments<'_>,
-    lines: &mut L,
-) -> Result<(), RowFault> {
-    let moment = moment(arguments)?;
-    let id = arguments.number(u64::MAX)?;
-    let begun = choice(arguments, b"begun", b"failed")?;
-    let words = &arguments.words(alloc)?;
-    if opens {
+fn why(arguments: &mut Arguments<'_>) -> Option<LogWhy> {
+    Some(match arguments.word() {
+        b"Shape" => LogWhy::Shape,
+        b"Prefix" => LogWhy::Prefix,
+        b"Replay" => LogWhy::Replay,
+        b"NoStanza" => LogWhy::NoStanza,
+        b"Expired" => LogWhy::Expired,
+        b"Mac" => LogWhy::Mac,
+        b"Cipher" => LogWhy::Cipher,
+        b"Plain" => LogWhy::Plain,
+        b"Kind" => LogWhy::Kind,
+        b"Age" => LogWhy::Age,
+        b"User" => LogWhy::User,
+        b"Source" => LogWhy::Source,
+        b"Port" => LogWhy::Port,
+        b"Stale" => LogWhy::Stale,
+        b"Full" => LogWhy::Full,
+        _ => {
+            arguments.refuse(RowFault::NoWord);
+            return None;
+        }
+    })
+}
+
+/// A line that ends with the words of a command.
+fn put_attempt<L: Lines>(alloc: Global, name: &[u8], arguments: &mut Arguments<'_>, lines: &mut L) {
+    let moment = moment(arguments);
+    let id = arguments.number(u64::MAX);
+    let begun = choice(arguments, b"begun", b"failed");
+    let words = &arguments.words(alloc);
+    let Some(moment) = moment else {
+        return;
+    };
+    if name == b"opened".as_slice() {
         lines.put(&LogItem::Opened {
             moment,
             id,
@@ -149,95 +142,90 @@ fn put_attempt<L: Lines>(
             begun,
         });
     }
-    Ok(())
 }
 
-fn put_listed<L: Lines>(
-    alloc: Global,
-    arguments: &mut Arguments<'_>,
-    lines: &mut L,
-) -> Result<(), RowFault> {
+fn put_listed<L: Lines>(alloc: Global, arguments: &mut Arguments<'_>, lines: &mut L) {
+    let id = arguments.number(u64::MAX);
+    let moment = moment(arguments);
+    let due = arguments.number(u64::MAX);
+    let ip = address(arguments);
+    let (Some(moment), Some(pair)) = (moment, pair(arguments)) else {
+        return;
+    };
     let item = OpenRecord {
-        id: arguments.number(u64::MAX)?,
+        id,
         digest: Digest([0; 32]),
         stamp: 0,
-        moment: moment(arguments)?,
-        due: arguments.number(u64::MAX)?,
-        ip: address(arguments)?,
-        pair: pair(arguments)?,
-        close: arguments.words(alloc)?,
+        moment,
+        due,
+        ip,
+        pair,
+        close: arguments.words(alloc),
     };
     lines.put(&LogItem::Listed { item: &item });
-    Ok(())
 }
 
 /// Lines on words, files and inputs.
-fn put_of_file<L: Lines>(
-    name: &[u8],
-    arguments: &mut Arguments<'_>,
-    lines: &mut L,
-) -> Result<bool, RowFault> {
+fn put_of_file<L: Lines>(name: &[u8], arguments: &mut Arguments<'_>, lines: &mut L) -> bool {
     match name {
-        b"usage" => lines.put(&LogItem::Usage {
-            fault: usage_fault(arguments)?,
-        }),
+        b"usage" => put_usage(arguments, lines),
         b"bad_file" => lines.put(&LogItem::BadFile {
-            name: arguments.text()?,
-            line: arguments.number(u32::MAX as u64)? as u32,
-            what: arguments.text()?,
+            name: arguments.text(),
+            line: arguments.number(u32::MAX as u64) as u32,
+            what: arguments.text(),
         }),
         b"bad_line" => lines.put(&LogItem::BadLine {
-            line: arguments.number(u64::MAX)?,
+            line: arguments.number(u64::MAX),
         }),
         b"long_input" => lines.put(&LogItem::LongInput {
-            line: arguments.number(u64::MAX)?,
+            line: arguments.number(u64::MAX),
         }),
         b"file_missing" => lines.put(&LogItem::FileMissing {
-            name: arguments.text()?,
+            name: arguments.text(),
         }),
         b"file_failed" => lines.put(&LogItem::FileFailed {
-            name: arguments.text()?,
+            name: arguments.text(),
         }),
-        _ => return Ok(false),
+        _ => return false,
     }
-    Ok(true)
+    true
 }
 
-fn usage_fault(arguments: &mut Arguments<'_>) -> Result<UsageFault, RowFault> {
-    match arguments.word()? {
-        b"Unknown" => Ok(UsageFault::Unknown(arguments.number(u64::MAX)?)),
-        b"NoValue" => Ok(UsageFault::NoValue(arguments.number(u64::MAX)?)),
-        b"Twice" => Ok(UsageFault::Twice(arguments.number(u64::MAX)?)),
-        b"BadValue" => Ok(UsageFault::BadValue(arguments.number(u64::MAX)?)),
-        b"Modes" => Ok(UsageFault::Modes),
-        _ => Err(RowFault::NoWord),
-    }
+fn put_usage<L: Lines>(arguments: &mut Arguments<'_>, lines: &mut L) {
+    let fault = match arguments.word() {
+        b"Unknown" => UsageFault::Unknown(arguments.number(u64::MAX)),
+        b"NoValue" => UsageFault::NoValue(arguments.number(u64::MAX)),
+        b"Twice" => UsageFault::Twice(arguments.number(u64::MAX)),
+        b"BadValue" => UsageFault::BadValue(arguments.number(u64::MAX)),
+        b"Modes" => UsageFault::Modes,
+        _ => {
+            arguments.refuse(RowFault::NoWord);
+            return;
+        }
+    };
+    lines.put(&LogItem::Usage { fault });
 }
 
 /// Lines on how a run ended.
-fn put_of_end<L: Lines>(
-    name: &[u8],
-    arguments: &mut Arguments<'_>,
-    lines: &mut L,
-) -> Result<bool, RowFault> {
+fn put_of_end<L: Lines>(name: &[u8], arguments: &mut Arguments<'_>, lines: &mut L) -> bool {
     match name {
         b"summary" => lines.put(&LogItem::Summary {
-            turns: arguments.number(u64::MAX)?,
+            turns: arguments.number(u64::MAX),
             tally: Tally {
-                opens: arguments.number(u64::MAX)?,
-                closes: arguments.number(u64::MAX)?,
-                settled: arguments.number(u64::MAX)?,
-                refused: arguments.number(u64::MAX)?,
+                opens: arguments.number(u64::MAX),
+                closes: arguments.number(u64::MAX),
+                settled: arguments.number(u64::MAX),
+                refused: arguments.number(u64::MAX),
             },
-            live: arguments.number(u64::MAX)?,
+            live: arguments.number(u64::MAX),
         }),
         b"feed_failed" => lines.put(&LogItem::FeedFailed),
         b"disk_failed" => lines.put(&LogItem::DiskFailed),
         b"damaged" => lines.put(&LogItem::Damaged {
-            place: arguments.number(u64::MAX)?,
+            place: arguments.number(u64::MAX),
         }),
         b"input_failed" => lines.put(&LogItem::InputFailed),
-        _ => return Ok(false),
+        _ => return false,
     }
-    Ok(true)
+    true
 }

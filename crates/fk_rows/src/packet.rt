@@ -2,8 +2,9 @@
 ghost use Rattle.std.specs.Prelude.{◌≡◌, ◌<◌, None};
 ghost use Rattle.fk_packet.specs.Shape.{shape_fault};
 
-use crate::packet_fields::{fields, put_fields};
+use crate::packet_fields::{fields, put_opened};
 use crate::reading::{bytes, keys};
+use crate::showing::{put_check, put_outcome};
 use fk_base::Steps;
 use fk_fields::Fields;
 use fk_mac::PreparedKeys;
@@ -19,58 +20,61 @@ pub(crate) fn call(
     name: &[u8],
     arguments: &mut Arguments<'_>,
     answer: &mut Answer,
-) -> Result<bool, RowFault> {
+) -> bool {
     match name {
-        b"shape" => match shape(arguments.text()?) {
-            Ok(()) => answer.word(b"Ok")?,
-            Err(fault) => answer.name(&fault)?,
-        },
-        b"unpack" => {
-            let keys = PreparedKeys::new(keys(alloc, arguments)?);
-            put_opened(
-                unpacked::<Brand>(alloc, arguments.text()?, &keys, Blank::new(1)),
-                answer,
-            )?;
-        }
-        b"open_under" => {
-            let keys = PreparedKeys::new(keys(alloc, arguments)?);
-            let datagram = arguments.text()?;
-            if shape(datagram).is_err() {
-                return Err(RowFault::Barred);
-            }
-            put_opened(
-                opened_under::<Brand>(alloc, datagram, &keys, Blank::new(1)),
-                answer,
-            )?;
-        }
-        b"pack" => call_pack(alloc, arguments, answer)?,
-        _ => return Ok(false),
+        b"shape" => put_check(&shape(arguments.text()), answer),
+        b"unpack" => call_unpack(alloc, arguments, answer),
+        b"open_under" => call_open_under(alloc, arguments, answer),
+        b"pack" => call_pack(alloc, arguments, answer),
+        _ => return false,
     }
-    Ok(true)
+    true
+}
+
+/// `unpack KEYS DATAGRAM`.
+fn call_unpack(alloc: Global, arguments: &mut Arguments<'_>, answer: &mut Answer) {
+    let Some(keys) = keys(alloc, arguments) else {
+        return;
+    };
+    let keys = PreparedKeys::new(keys);
+    let datagram = arguments.text();
+    put_opened(
+        &unpacked::<Brand>(alloc, datagram, &keys, Blank::new(1)),
+        answer,
+    );
+}
+
+/// `open_under KEYS DATAGRAM`, of a datagram that has the shape of one.
+fn call_open_under(alloc: Global, arguments: &mut Arguments<'_>, answer: &mut Answer) {
+    let Some(keys) = keys(alloc, arguments) else {
+        return;
+    };
+    let keys = PreparedKeys::new(keys);
+    let datagram = arguments.text();
+    if shape(datagram).is_err() {
+        arguments.refuse(RowFault::Barred);
+        return;
+    }
+    put_opened(
+        &opened_under::<Brand>(alloc, datagram, &keys, Blank::new(1)),
+        answer,
+    );
 }
 
 /// `pack KEYS SALT FIELDS`.
-fn call_pack(
-    alloc: Global,
-    arguments: &mut Arguments<'_>,
-    answer: &mut Answer,
-) -> Result<(), RowFault> {
-    let keys = keys(alloc, arguments)?;
-    let salt = bytes(arguments)?;
-    let fields = fields(alloc, arguments)?;
-    if fields.check().is_err() {
-        return Err(RowFault::Barred);
+fn call_pack(alloc: Global, arguments: &mut Arguments<'_>, answer: &mut Answer) {
+    let Some(keys) = keys(alloc, arguments) else {
+        return;
+    };
+    let salt = bytes(arguments);
+    let Some(fields) = fields(alloc, arguments) else {
+        return;
+    };
+    if fields.check().is_ok() {
+        put_outcome(&pack(alloc, &fields, &keys, salt), answer);
+    } else {
+        arguments.refuse(RowFault::Barred);
     }
-    answer.text(pack(alloc, &fields, &keys, salt)?.as_slice())?;
-    Ok(())
-}
-
-fn put_opened(opened: Result<Fields, PacketFault>, answer: &mut Answer) -> Result<(), RowFault> {
-    match opened {
-        Ok(fields) => put_fields(&fields, answer)?,
-        Err(fault) => answer.name(&fault)?,
-    }
-    Ok(())
 }
 
 fn unpacked<L: Ledger>(

@@ -4,7 +4,7 @@ use crate::{
     packet, subst, text, timer, values, words,
 };
 use fk_cycle::Machine;
-use fk_row_text::{Answer, Arguments, Calls, RowFault};
+use fk_row_text::{Answer, Arguments, Calls};
 use fk_timer::Timer;
 use std::alloc::Global;
 
@@ -37,63 +37,26 @@ impl Calls for RowCalls {
         name: &[u8],
         arguments: &mut Arguments<'_>,
         answer: &mut Answer,
-    ) -> Result<(), RowFault> {
-        if call_bytes(alloc, name, arguments, answer)?
-            || call_packet(alloc, name, arguments, answer)?
-            || call_settings(alloc, name, arguments, answer)?
-            || timer::call(alloc, name, &mut self.timer, arguments, answer)?
-            || cycle::call(alloc, name, &mut self.machine, arguments, answer)?
-            || log::call(alloc, name, &mut self.log, arguments, answer)?
-        {
-            return Ok(());
-        }
-        Err(RowFault::UnknownCall)
+    ) -> bool {
+        base::call(alloc, name, arguments, answer)
+            || text::call(alloc, name, arguments, answer)
+            || mac::call(alloc, name, arguments, answer)
+            || aes::call(name, arguments, answer)
+            || cbc::call(alloc, name, arguments, answer)
+            || fields::call(alloc, name, arguments, answer)
+            || codec::call(alloc, name, arguments, answer)
+            || packet::call(alloc, name, arguments, answer)
+            || admit::call(alloc, name, arguments, answer)
+            || client::call(alloc, name, arguments, answer)
+            || lines::call(name, arguments, answer)
+            || values::call(alloc, name, arguments, answer)
+            || subst::call(alloc, name, arguments, answer)
+            || access::call(alloc, name, arguments, answer)
+            || conf::call(alloc, name, arguments, answer)
+            || words::call(alloc, name, arguments, answer)
+            || input::call(alloc, name, arguments, answer)
+            || timer::call(alloc, name, &mut self.timer, arguments, answer)
+            || cycle::call(alloc, name, &mut self.machine, arguments, answer)
+            || log::call(alloc, name, &mut self.log, arguments, answer)
     }
-}
-
-fn call_bytes(
-    alloc: Global,
-    name: &[u8],
-    arguments: &mut Arguments<'_>,
-    answer: &mut Answer,
-) -> Result<bool, RowFault> {
-    Ok(
-        base::call(alloc, name, arguments, answer)?
-            || text::call(alloc, name, arguments, answer)?
-            || mac::call(alloc, name, arguments, answer)?
-            || aes::call(name, arguments, answer)?
-            || cbc::call(alloc, name, arguments, answer)?,
-    )
-}
-
-fn call_packet(
-    alloc: Global,
-    name: &[u8],
-    arguments: &mut Arguments<'_>,
-    answer: &mut Answer,
-) -> Result<bool, RowFault> {
-    Ok(
-        fields::call(alloc, name, arguments, answer)?
-            || codec::call(alloc, name, arguments, answer)?
-            || packet::call(alloc, name, arguments, answer)?
-            || admit::call(alloc, name, arguments, answer)?
-            || client::call(alloc, name, arguments, answer)?,
-    )
-}
-
-fn call_settings(
-    alloc: Global,
-    name: &[u8],
-    arguments: &mut Arguments<'_>,
-    answer: &mut Answer,
-) -> Result<bool, RowFault> {
-    Ok(
-        lines::call(name, arguments, answer)?
-            || values::call(alloc, name, arguments, answer)?
-            || subst::call(alloc, name, arguments, answer)?
-            || access::call(alloc, name, arguments, answer)?
-            || conf::call(alloc, name, arguments, answer)?
-            || words::call(alloc, name, arguments, answer)?
-            || input::call(alloc, name, arguments, answer)?,
-    )
 }

@@ -1,7 +1,8 @@
 //! How values stand in answers. Addresses and pairs are written here once more, so that no writer under test writes them.
-use fk_base::{Bytes, Ip4, Net4, NoMemory, Pair, Proto, Words};
+use fk_base::{Bytes, Ip4, Net4, Pair, Proto, Words};
 use fk_row_text::Answer;
 use std::fmt;
+use std::fmt::Debug;
 
 /// An address, as `10.0.0.7`.
 #[derive(Drop)]
@@ -40,35 +41,49 @@ impl fmt::Display for Net {
     }
 }
 
-pub(crate) fn put_address(ip: Ip4, answer: &mut Answer) -> Result<(), NoMemory> {
-    answer.shown(&Address(ip))
+pub(crate) fn put_address(ip: Ip4, answer: &mut Answer) {
+    answer.shown(&Address(ip));
 }
 
-pub(crate) fn put_net(net: Net4, answer: &mut Answer) -> Result<(), NoMemory> {
-    answer.shown(&Net(net))
+pub(crate) fn put_net(net: Net4, answer: &mut Answer) {
+    answer.shown(&Net(net));
 }
 
-pub(crate) fn put_pair(pair: Pair, answer: &mut Answer) -> Result<(), NoMemory> {
-    answer.shown(&Port(pair))
+pub(crate) fn put_pair(pair: Pair, answer: &mut Answer) {
+    answer.shown(&Port(pair));
 }
 
-pub(crate) fn put_pairs(pairs: &[Pair], answer: &mut Answer) -> Result<(), NoMemory> {
+pub(crate) fn put_pairs(pairs: &[Pair], answer: &mut Answer) {
     for pair in pairs {
-        put_pair(*pair, answer)?;
+        put_pair(*pair, answer);
     }
-    Ok(())
 }
 
 /// The texts of a list, one after the other.
-pub(crate) fn put_words(words: &Words, answer: &mut Answer) -> Result<(), NoMemory> {
+pub(crate) fn put_words(words: &Words, answer: &mut Answer) {
     for at in 0..words.count() {
-        answer.text(words.get(at))?;
+        answer.text(words.get(at));
     }
-    Ok(())
+}
+
+/// A text, or the name of a fault.
+pub(crate) fn put_outcome<E: Debug>(made: &Result<Bytes, E>, answer: &mut Answer) {
+    match made {
+        Ok(text) => answer.text(text.as_slice()),
+        Err(fault) => answer.name(fault),
+    }
+}
+
+/// `Ok`, or the name of a fault.
+pub(crate) fn put_check<E: Debug>(check: &Result<(), E>, answer: &mut Answer) {
+    match check {
+        Ok(()) => answer.word(b"Ok"),
+        Err(fault) => answer.name(fault),
+    }
 }
 
 /// A text, or `none`.
-pub(crate) fn put_text_if(text: Option<&[u8]>, answer: &mut Answer) -> Result<(), NoMemory> {
+pub(crate) fn put_text_if(text: Option<&[u8]>, answer: &mut Answer) {
     match text {
         Some(text) => answer.text(text),
         None => answer.word(b"none"),
@@ -76,7 +91,7 @@ pub(crate) fn put_text_if(text: Option<&[u8]>, answer: &mut Answer) -> Result<()
 }
 
 /// A text, or `none`.
-pub(crate) fn put_bytes_if(bytes: Option<&Bytes>, answer: &mut Answer) -> Result<(), NoMemory> {
+pub(crate) fn put_bytes_if(bytes: Option<&Bytes>, answer: &mut Answer) {
     match bytes {
         Some(bytes) => answer.text(bytes.as_slice()),
         None => answer.word(b"none"),
@@ -84,15 +99,23 @@ pub(crate) fn put_bytes_if(bytes: Option<&Bytes>, answer: &mut Answer) -> Result
 }
 
 /// A number, or `none`.
-pub(crate) fn put_number_if(number: Option<u64>, answer: &mut Answer) -> Result<(), NoMemory> {
+pub(crate) fn put_number_if(number: Option<u64>, answer: &mut Answer) {
     match number {
         Some(number) => answer.number(number),
         None => answer.word(b"none"),
     }
 }
 
+/// The name of a variant, or `none`.
+pub(crate) fn put_name_if<T: Debug + Drop>(variant: Option<T>, answer: &mut Answer) {
+    match variant {
+        Some(variant) => answer.name(&variant),
+        None => answer.word(b"none"),
+    }
+}
+
 /// An address, or `none`.
-pub(crate) fn put_address_if(ip: Option<Ip4>, answer: &mut Answer) -> Result<(), NoMemory> {
+pub(crate) fn put_address_if(ip: Option<Ip4>, answer: &mut Answer) {
     match ip {
         Some(ip) => put_address(ip, answer),
         None => answer.word(b"none"),
@@ -100,7 +123,7 @@ pub(crate) fn put_address_if(ip: Option<Ip4>, answer: &mut Answer) -> Result<(),
 }
 
 /// A pair, or `none`.
-pub(crate) fn put_pair_if(pair: Option<Pair>, answer: &mut Answer) -> Result<(), NoMemory> {
+pub(crate) fn put_pair_if(pair: Option<Pair>, answer: &mut Answer) {
     match pair {
         Some(pair) => put_pair(pair, answer),
         None => answer.word(b"none"),

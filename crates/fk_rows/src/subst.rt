@@ -16,48 +16,42 @@ pub(crate) fn call(
     name: &[u8],
     arguments: &mut Arguments<'_>,
     answer: &mut Answer,
-) -> Result<bool, RowFault> {
+) -> bool {
     match name {
-        b"is_template" => answer.flag(is_template(arguments.text()?))?,
-        b"split" => call_split(alloc, arguments, answer)?,
-        b"fill" => call_fill(alloc, arguments, answer)?,
-        _ => return Ok(false),
+        b"is_template" => answer.flag(is_template(arguments.text())),
+        b"split" => call_split(alloc, arguments, answer),
+        b"fill" => call_fill(alloc, arguments, answer),
+        _ => return false,
     }
-    Ok(true)
+    true
 }
 
-fn call_split(
-    alloc: Global,
-    arguments: &mut Arguments<'_>,
-    answer: &mut Answer,
-) -> Result<(), RowFault> {
-    let text = arguments.text()?;
+fn call_split(alloc: Global, arguments: &mut Arguments<'_>, answer: &mut Answer) {
+    let text = arguments.text();
     if !is_line(text) {
-        return Err(RowFault::Barred);
+        arguments.refuse(RowFault::Barred);
+        return;
     }
     match split(alloc, text) {
-        Ok(_template) => answer.word(b"Ok")?,
-        Err(fault) => answer.name(&fault)?,
+        Ok(_template) => answer.word(b"Ok"),
+        Err(fault) => answer.name(&fault),
     }
-    Ok(())
 }
 
 /// `fill TEXT ADDRESS SOURCE SECONDS PAIR ..`: the words of the command, filled in for such a grant.
-fn call_fill(
-    alloc: Global,
-    arguments: &mut Arguments<'_>,
-    answer: &mut Answer,
-) -> Result<(), RowFault> {
-    let text = arguments.text()?;
-    let grant = grant(arguments)?;
+fn call_fill(alloc: Global, arguments: &mut Arguments<'_>, answer: &mut Answer) {
+    let text = arguments.text();
+    let Some(grant) = grant(arguments) else {
+        return;
+    };
     if !is_line(text) {
-        return Err(RowFault::Barred);
+        arguments.refuse(RowFault::Barred);
+        return;
     }
     match filled(alloc, text, &grant) {
-        Ok(words) => put_words(&words, answer)?,
-        Err(fault) => answer.name(&fault)?,
+        Ok(words) => put_words(&words, answer),
+        Err(fault) => answer.name(&fault),
     }
-    Ok(())
 }
 
 fn filled(alloc: Global, text: &[u8], grant: &Grant) -> Result<Words, CommandFault>
@@ -67,13 +61,17 @@ fn filled(alloc: Global, text: &[u8], grant: &Grant) -> Result<Words, CommandFau
     Ok(fill(alloc, &template, grant)?)
 }
 
-fn grant(arguments: &mut Arguments<'_>) -> Result<Grant, RowFault> {
-    Ok(Grant {
+fn grant(arguments: &mut Arguments<'_>) -> Option<Grant> {
+    let ip = address(arguments);
+    let src = address(arguments);
+    let seconds = arguments.number(u32::MAX as u64) as u32;
+    let pairs = pairs(arguments)?;
+    Some(Grant {
         stanza: 1,
-        ip: address(arguments)?,
-        src: address(arguments)?,
-        seconds: arguments.number(u32::MAX as u64)? as u32,
-        pairs: pairs(arguments)?,
+        ip,
+        src,
+        seconds,
+        pairs,
         stamp: 1_700_000_000,
     })
 }

@@ -1,5 +1,5 @@
 //! The calls of fk_text: base64.
-use crate::showing::put_number_if;
+use crate::showing::put_outcome;
 use fk_row_text::{Answer, Arguments, RowFault};
 use fk_text::{first_bad_byte, is_text_of, put_text, take_into, take_short, take_text};
 use std::alloc::Global;
@@ -10,56 +10,57 @@ pub(crate) fn call(
     name: &[u8],
     arguments: &mut Arguments<'_>,
     answer: &mut Answer,
-) -> Result<bool, RowFault> {
+) -> bool {
     match name {
-        b"put_text" => answer.text(put_text(alloc, arguments.text()?)?.as_slice())?,
-        b"take_text" => match take_text(alloc, arguments.text()?) {
-            Ok(bytes) => answer.text(bytes.as_slice())?,
-            Err(fault) => answer.name(&fault)?,
-        },
-        b"take_short" => call_take_short(arguments, answer)?,
-        b"take_into" => call_take_into(arguments, answer)?,
-        b"is_text_of" => call_is_text_of(arguments, answer)?,
-        b"first_bad_byte" => {
-            let place = first_bad_byte(arguments.text()?);
-            put_number_if(place.map(|place| place as u64), answer)?;
-        }
-        _ => return Ok(false),
+        b"put_text" => put_outcome(&put_text(alloc, arguments.text()), answer),
+        b"take_text" => put_outcome(&take_text(alloc, arguments.text()), answer),
+        b"take_short" => call_take_short(arguments, answer),
+        b"take_into" => call_take_into(arguments, answer),
+        b"is_text_of" => call_is_text_of(arguments, answer),
+        b"first_bad_byte" => call_first_bad_byte(arguments, answer),
+        _ => return false,
     }
-    Ok(true)
+    true
 }
 
-fn call_take_short(arguments: &mut Arguments<'_>, answer: &mut Answer) -> Result<(), RowFault> {
-    let text = arguments.text()?;
+fn call_take_short(arguments: &mut Arguments<'_>, answer: &mut Answer) {
+    let text = arguments.text();
     if text.len() > 256 {
-        return Err(RowFault::Barred);
+        arguments.refuse(RowFault::Barred);
+        return;
     }
     match take_short(text) {
-        Some(bytes) => answer.text(bytes.as_slice())?,
-        None => answer.word(b"none")?,
+        Some(bytes) => answer.text(bytes.as_slice()),
+        None => answer.word(b"none"),
     }
-    Ok(())
 }
 
-fn call_take_into(arguments: &mut Arguments<'_>, answer: &mut Answer) -> Result<(), RowFault> {
-    let text = arguments.text()?;
+fn call_take_into(arguments: &mut Arguments<'_>, answer: &mut Answer) {
+    let text = arguments.text();
     let mut room = [0; 192];
     if text.len() > 256 {
-        return Err(RowFault::Barred);
+        arguments.refuse(RowFault::Barred);
+        return;
     }
     match take_into(text, &mut room) {
-        Some(len) => answer.text(&room[..len])?,
-        None => answer.word(b"none")?,
+        Some(len) => answer.text(&room[..len]),
+        None => answer.word(b"none"),
     }
-    Ok(())
 }
 
-fn call_is_text_of(arguments: &mut Arguments<'_>, answer: &mut Answer) -> Result<(), RowFault> {
-    let text = arguments.text()?;
-    let bytes = arguments.text()?;
+fn call_is_text_of(arguments: &mut Arguments<'_>, answer: &mut Answer) {
+    let text = arguments.text();
+    let bytes = arguments.text();
     if bytes.len() > 64 {
-        return Err(RowFault::Barred);
+        arguments.refuse(RowFault::Barred);
+        return;
     }
-    answer.flag(is_text_of(text, bytes))?;
-    Ok(())
+    answer.flag(is_text_of(text, bytes));
+}
+
+fn call_first_bad_byte(arguments: &mut Arguments<'_>, answer: &mut Answer) {
+    match first_bad_byte(arguments.text()) {
+        Some(place) => answer.number(place as u64),
+        None => answer.word(b"none"),
+    }
 }

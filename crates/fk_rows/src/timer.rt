@@ -11,35 +11,42 @@ pub(crate) fn call(
     timer: &mut Option<Timer>,
     arguments: &mut Arguments<'_>,
     answer: &mut Answer,
-) -> Result<bool, RowFault> {
-    match name {
-        b"timer" => *timer = Some(Timer::new(alloc)),
-        b"put" => call_put(timer.as_mut().ok_or(RowFault::Barred)?, arguments)?,
-        b"holds" => {
-            let timer = timer.as_ref().ok_or(RowFault::Barred)?;
-            answer.flag(timer.holds(arguments.number(u64::MAX)?))?;
-        }
-        b"take_due" => {
-            let timer = timer.as_mut().ok_or(RowFault::Barred)?;
-            put_number_if(timer.take_due(arguments.number(u64::MAX)?), answer)?;
-        }
-        b"drop_id" => {
-            let timer = timer.as_mut().ok_or(RowFault::Barred)?;
-            timer.drop_id(arguments.number(u64::MAX)?);
-        }
-        _ => return Ok(false),
+) -> bool {
+    if name == b"timer".as_slice() {
+        *timer = Some(Timer::new(alloc));
+        return true;
     }
-    Ok(true)
+    match timer {
+        Some(timer) => call_timer(name, timer, arguments, answer),
+        None => false,
+    }
+}
+
+fn call_timer(
+    name: &[u8],
+    timer: &mut Timer,
+    arguments: &mut Arguments<'_>,
+    answer: &mut Answer,
+) -> bool {
+    match name {
+        b"put" => call_put(timer, arguments),
+        b"holds" => answer.flag(timer.holds(arguments.number(u64::MAX))),
+        b"take_due" => put_number_if(timer.take_due(arguments.number(u64::MAX)), answer),
+        b"drop_id" => timer.drop_id(arguments.number(u64::MAX)),
+        _ => return false,
+    }
+    true
 }
 
 /// `put ID MOMENT`, of a number that does not wait.
-fn call_put(timer: &mut Timer, arguments: &mut Arguments<'_>) -> Result<(), RowFault> {
-    let id = arguments.number(u64::MAX)?;
-    let moment = arguments.number(u64::MAX)?;
-    timer.reserve()?;
-    if timer.holds(id) {
-        return Err(RowFault::Barred);
+fn call_put(timer: &mut Timer, arguments: &mut Arguments<'_>) {
+    let id = arguments.number(u64::MAX);
+    let moment = arguments.number(u64::MAX);
+    if timer.reserve().is_err() {
+        arguments.refuse(RowFault::NoMemory);
+    } else if timer.holds(id) {
+        arguments.refuse(RowFault::Barred);
+    } else {
+        timer.put(id, moment);
     }
-    timer.put(id, moment);
-    Ok(())
 }
