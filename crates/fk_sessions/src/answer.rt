@@ -40,10 +40,21 @@ impl Answer {
         self.status
     }
 
+    /// One line.
+    pub fn of_text(alloc: Global, line: String) -> Result<Self, NoMemory> {
+        let mut answer = Answer::new(alloc);
+        answer.say_text(line)?;
+        Ok(answer)
+    }
+
     /// Adds a line.
     pub fn say(&mut self, line: &[u8]) -> Result<(), NoMemory> {
         self.text.append(line)?;
         self.text.append(b"\n")
+    }
+
+    pub fn say_text(&mut self, line: String) -> Result<(), NoMemory> {
+        self.say(line.as_bytes())
     }
 }
 

@@ -70,9 +70,15 @@ pub fn run_daemon(stage: &mut Stage, fields: &mut Fields<'_>) -> Result<Answer, 
         &stage.areas,
         usize::MAX,
     )?;
-    stage.areas = read_from(&ran.host)?;
     let answer = Answer::of_run(stage.alloc, ran.out.written(), ran.status)?;
-    stage.host = Some(ran.host);
     stage.port = ran.port;
+    leave(stage, ran.host)?;
     Ok(answer)
+}
+
+/// The session goes on with what the calls of the host have left.
+pub fn leave(stage: &mut Stage, host: MemHost) -> Result<(), NoMemory> {
+    stage.areas = read_from(&host)?;
+    stage.host = Some(host);
+    Ok(())
 }

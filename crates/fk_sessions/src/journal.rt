@@ -16,17 +16,9 @@ use std::alloc::Global;
 /// Opens the journal with this limit, and lists its entries and its room.
 pub fn list_entries(stage: &mut Stage, fields: &mut Fields<'_>) -> Result<Answer, Fault> {
     let limit = fields.number()?;
-    let mut host = stage.take_setup().host(&stage.areas)?;
+    let mut host = stage.take_host()?;
     let mut answer = Answer::new(stage.alloc);
-    match Journal::open(stage.alloc, &mut host, limit) {
-        Ok((journal, entries)) => {
-            for entry in &entries {
-                say_entry(stage.alloc, entry, &mut answer)?;
-            }
-            say_room(stage.alloc, journal.room(), &mut answer)?;
-        }
-        Err(err) => say_err(stage.alloc, err, &mut answer)?,
-    }
+    say_opened(stage.alloc, &mut host, limit, &mut answer)?;
     leave(stage, &host)?;
     Ok(answer)
 }
@@ -36,26 +28,43 @@ fn leave(stage: &mut Stage, host: &MemHost) -> Result<(), NoMemory> {
     Ok(())
 }
 
+fn say_opened(
+    alloc: Global,
+    host: &mut MemHost,
+    limit: u64,
+    answer: &mut Answer,
+) -> Result<(), NoMemory> {
+    match Journal::open(alloc, host, limit) {
+        Ok((journal, entries)) => {
+            say_entries(alloc, &entries, answer)?;
+            say_room(alloc, journal.room(), answer)
+        }
+        Err(err) => say_err(alloc, err, answer),
+    }
+}
+
+fn say_entries(alloc: Global, entries: &[Entry], answer: &mut Answer) -> Result<(), NoMemory> {
+    for entry in entries {
+        say_entry(alloc, entry, answer)?;
+    }
+    Ok(())
+}
+
 fn say_entry(alloc: Global, entry: &Entry, answer: &mut Answer) -> Result<(), NoMemory> {
     let place = entry.place;
     let kind = entry.kind;
     let payload = hex_text(alloc, entry.payload.as_slice())?;
-    let line = format!(in alloc; "{place} kind {kind} {payload}")?;
-    answer.say(line.as_bytes())
+    answer.say_text(format!(in alloc; "{place} kind {kind} {payload}")?)
 }
 
 fn say_room(alloc: Global, room: u64, answer: &mut Answer) -> Result<(), NoMemory> {
-    let line = format!(in alloc; "room {room}")?;
-    answer.say(line.as_bytes())
+    answer.say_text(format!(in alloc; "room {room}")?)
 }
 
 fn say_err(alloc: Global, err: JournalErr, answer: &mut Answer) -> Result<(), NoMemory> {
     match err {
         JournalErr::Disk => answer.say(b"disk failed"),
-        JournalErr::Damaged(place) => {
-            let line = format!(in alloc; "damaged {place}")?;
-            answer.say(line.as_bytes())
-        }
+        JournalErr::Damaged(place) => answer.say_text(format!(in alloc; "damaged {place}")?),
         JournalErr::NoMemory => Err(NoMemory),
     }
 }
@@ -65,13 +74,18 @@ pub fn append_entry(stage: &mut Stage, fields: &mut Fields<'_>) -> Result<Answer
     let limit = fields.number()?;
     let kind = kind_of(fields.word()?)?;
     let payload = stage.names.hex(fields.all_or_none().unwrap_or(""))?;
-    let mut host = stage.take_setup().host(&stage.areas)?;
-    let mut answer = Answer::new(stage.alloc);
-    match appended(stage.alloc, &mut host, limit, kind, payload.as_slice()) {
-        Ok(room) => say_room(stage.alloc, room, &mut answer)?,
-        Err(err) => say_err(stage.alloc, err, &mut answer)?,
-    }
+    let mut host = stage.take_host()?;
+    let room = appended(stage.alloc, &mut host, limit, kind, payload.as_slice());
     leave(stage, &host)?;
+    answer_of(stage.alloc, room)
+}
+
+fn answer_of(alloc: Global, room: Result<u64, JournalErr>) -> Result<Answer, Fault> {
+    let mut answer = Answer::new(alloc);
+    match room {
+        Ok(room) => say_room(alloc, room, &mut answer)?,
+        Err(err) => say_err(alloc, err, &mut answer)?,
+    }
     Ok(answer)
 }
 

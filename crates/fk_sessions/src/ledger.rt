@@ -5,13 +5,13 @@ ghost use Rattle.fk_ledger.specs.Book.{live_ids};
 ghost use Rattle.fk_ledger.specs.Holds.{KeepsLedger};
 
 use crate::answer::Answer;
-use crate::areas::read_from;
+use crate::daemon::leave;
 use crate::fault::Fault;
 use crate::fields::Fields;
 use crate::memory::{Disk, MemHost};
 use crate::names::hex_text;
 use crate::stage::Stage;
-use fk_base::{Bytes, Digest, NoMemory, put_ip, put_pair, read_pair};
+use fk_base::{Bytes, Digest, NoMemory, Words, put_ip, put_pair, read_pair};
 use fk_ledger::{Ledger, LedgerErr, Owed, RecordFault, are_command_words};
 use fk_trace::{Change, OpenRecord};
 use std::alloc::Global;
@@ -64,74 +64,77 @@ pub fn found_on(
 pub fn open_ledger(stage: &mut Stage, fields: &mut Fields<'_>) -> Result<Answer, Fault> {
     let room = fields.number()?;
     let live = fields.count()?;
-    let mut host = stage.take_setup().host(&stage.areas)?;
+    let mut host = stage.take_host()?;
     let found = found_on(stage.alloc, &mut host, room, live)?;
-    let mut answer = Answer::new(stage.alloc);
-    answer.say(found.text(stage.alloc)?.as_bytes())?;
     leave(stage, host)?;
-    Ok(answer)
-}
-
-/// The session goes on with what the calls have left.
-fn leave(stage: &mut Stage, host: MemHost) -> Result<(), NoMemory> {
-    stage.areas = read_from(&host)?;
-    stage.host = Some(host);
-    Ok(())
+    Ok(Answer::of_text(stage.alloc, found.text(stage.alloc)?)?)
 }
 
 /// Lists the changes of the ledger, which is only read.
 pub fn list_changes(stage: &mut Stage) -> Result<Answer, Fault> {
-    let mut host = stage.take_setup().host(&stage.areas)?;
+    let mut host = stage.take_host()?;
     let mut answer = Answer::new(stage.alloc);
-    match Ledger::view(stage.alloc, &mut host) {
-        Ok(changes) => {
-            for change in &changes {
-                answer.say(change_text(stage.alloc, change)?.as_slice())?;
-            }
-        }
-        Err(LedgerErr::Damaged(place)) => {
-            answer.say(Found::Damaged(place).text(stage.alloc)?.as_bytes())?;
-        }
-        Err(LedgerErr::Disk) => answer.say(b"disk failed")?,
-        Err(LedgerErr::NoMemory) => return Err(Fault::NoMemory),
-    }
+    say_view(stage.alloc, &mut host, &mut answer)?;
     leave(stage, host)?;
     Ok(answer)
 }
 
-fn change_text(alloc: Global, change: &Change) -> Result<Bytes, NoMemory> {
+fn say_view(alloc: Global, host: &mut MemHost, answer: &mut Answer) -> Result<(), NoMemory> {
+    match Ledger::view(alloc, host) {
+        Ok(changes) => say_changes(alloc, &changes, answer),
+        Err(LedgerErr::Damaged(place)) => answer.say_text(Found::Damaged(place).text(alloc)?),
+        Err(LedgerErr::Disk) => answer.say_text(Found::Failed.text(alloc)?),
+        Err(LedgerErr::NoMemory) => Err(NoMemory),
+    }
+}
+
+fn say_changes(alloc: Global, changes: &[Change], answer: &mut Answer) -> Result<(), NoMemory> {
+    for change in changes {
+        say_change(alloc, change, answer)?;
+    }
+    Ok(())
+}
+
+fn say_change(alloc: Global, change: &Change, answer: &mut Answer) -> Result<(), NoMemory> {
     match change {
-        Change::Open(item) => open_text(alloc, item),
-        Change::Done(id) => Bytes::copy(alloc, format!(in alloc; "done {id}")?.as_bytes()),
+        Change::Open(item) => say_open(alloc, item, answer),
+        Change::Done(id) => answer.say_text(format!(in alloc; "done {id}")?),
         Change::Settled { id, stamp, digest } => {
             let letters = hex_text(alloc, &digest.0)?;
-            Bytes::copy(
-                alloc,
-                format!(in alloc; "settled {id} {letters} {stamp}")?.as_bytes(),
-            )
+            answer.say_text(format!(in alloc; "settled {id} {letters} {stamp}")?)
         }
         Change::Floor { floor, next } => {
-            Bytes::copy(alloc, format!(in alloc; "floor {floor} {next}")?.as_bytes())
+            answer.say_text(format!(in alloc; "floor {floor} {next}")?)
         }
     }
 }
 
-fn open_text(alloc: Global, item: &OpenRecord) -> Result<Bytes, NoMemory> {
+fn say_open(alloc: Global, item: &OpenRecord, answer: &mut Answer) -> Result<(), NoMemory> {
+    let mut text = Bytes::new(alloc);
+    put_numbers(alloc, item, &mut text)?;
+    put_ip(item.ip, &mut text)?;
+    text.append(b" ")?;
+    put_pair(item.pair, &mut text)?;
+    put_words(&item.close, &mut text)?;
+    answer.say(text.as_slice())
+}
+
+fn put_numbers(alloc: Global, item: &OpenRecord, text: &mut Bytes) -> Result<(), NoMemory> {
     let id = item.id;
     let digest = hex_text(alloc, &item.digest.0)?;
     let stamp = item.stamp;
     let moment = item.moment.get();
     let due = item.due;
     let start = format!(in alloc; "open {id} {digest} {stamp} {moment} {due} ")?;
-    let mut text = Bytes::copy(alloc, start.as_bytes())?;
-    put_ip(item.ip, &mut text)?;
-    text.append(b" ")?;
-    put_pair(item.pair, &mut text)?;
-    for at in 0..item.close.count() {
+    text.append(start.as_bytes())
+}
+
+fn put_words(words: &Words, text: &mut Bytes) -> Result<(), NoMemory> {
+    for at in 0..words.count() {
         text.append(b" ")?;
-        text.append(item.close.get(at))?;
+        text.append(words.get(at))?;
     }
-    Ok(text)
+    Ok(())
 }
 
 /// Records an open in the ledger with this room and so many live records.
@@ -139,10 +142,11 @@ pub fn record_item(stage: &mut Stage, fields: &mut Fields<'_>) -> Result<Answer,
     let room = fields.number()?;
     let live = fields.count()?;
     let item = item_of(stage, fields)?;
-    let mut host = stage.take_setup().host(&stage.areas)?;
-    let mut answer = Answer::new(stage.alloc);
-    answer.say(recorded(stage.alloc, &mut host, room, live, item)?.as_bytes())?;
+    let mut host = stage.take_host()?;
+    let word = recorded(stage.alloc, &mut host, room, live, item)?;
     leave(stage, host)?;
+    let mut answer = Answer::new(stage.alloc);
+    answer.say(word.as_bytes())?;
     Ok(answer)
 }
 

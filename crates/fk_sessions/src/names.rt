@@ -46,16 +46,22 @@ impl Names {
     /// letter so many times, `{0x7f}` for bytes in hexadecimal, and `{}` for none.
     pub fn bytes(&self, written: &str) -> Result<Bytes, Fault> {
         let mut out = Bytes::new(self.alloc);
+        self.put_bytes(written, &mut out)?;
+        Ok(out)
+    }
+
+    /// Puts these bytes behind others.
+    pub fn put_bytes(&self, written: &str, out: &mut Bytes) -> Result<(), Fault> {
         for (at, part) in written.split('{').enumerate() {
             if at == 0 {
                 out.append(part.as_bytes())?;
             } else {
                 let (inner, plain) = part.split_once('}').ok_or(Fault::NotUnderstood)?;
-                self.put(inner, &mut out)?;
+                self.put(inner, out)?;
                 out.append(plain.as_bytes())?;
             }
         }
-        Ok(out)
+        Ok(())
     }
 
     fn put(&self, inner: &str, out: &mut Bytes) -> Result<(), Fault> {

@@ -62,15 +62,24 @@ fn say_stretches(alloc: Global, all: &[Found], answer: &mut Answer) -> Result<()
     for (at, found) in all.iter().enumerate() {
         let next = at.saturating_add(1);
         if all.get(next) != Some(found) {
-            let text = found.text(alloc)?;
-            let line = if first == at {
-                format!(in alloc; "{at} {text}")?
-            } else {
-                format!(in alloc; "{first} to {at} {text}")?
-            };
-            answer.say(line.as_bytes())?;
+            say_stretch(alloc, first, at, *found, answer)?;
             first = next;
         }
     }
     Ok(())
+}
+
+fn say_stretch(
+    alloc: Global,
+    first: usize,
+    last: usize,
+    found: Found,
+    answer: &mut Answer,
+) -> Result<(), NoMemory> {
+    let text = found.text(alloc)?;
+    if first == last {
+        answer.say_text(format!(in alloc; "{last} {text}")?)
+    } else {
+        answer.say_text(format!(in alloc; "{first} to {last} {text}")?)
+    }
 }

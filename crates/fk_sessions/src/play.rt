@@ -17,18 +17,39 @@ pub fn play_file(alloc: Global, shared: File<'_>, file: File<'_>) -> Result<Repo
     let mut report = Report::new(alloc);
     let shared = lines_of(alloc, shared.name, shared.text)?;
     let lines = lines_of(alloc, file.name, file.text)?;
+    let sessions = play_sessions(alloc, &shared, &lines, &mut report)?;
+    report.end(file.name, sessions)?;
+    Ok(report)
+}
+
+/// Answers how many sessions the lines have.
+fn play_sessions(
+    alloc: Global,
+    shared: &[Line<'_>],
+    lines: &[Line<'_>],
+    report: &mut Report,
+) -> Result<u64, NoMemory> {
     let mut parts = lines.split(|line| line.begins_session());
     let first = parts.next().unwrap_or(&[]);
     let mut sessions = 0u64;
     for own in parts {
-        let mut stage = Stage::new(alloc);
-        play_lines(&mut stage, &shared, &mut report)?;
-        play_lines(&mut stage, first, &mut report)?;
-        play_lines(&mut stage, own, &mut report)?;
+        play_session(alloc, shared, first, own, report)?;
         sessions = sessions.saturating_add(1);
     }
-    report.end(file.name, sessions)?;
-    Ok(report)
+    Ok(sessions)
+}
+
+fn play_session(
+    alloc: Global,
+    shared: &[Line<'_>],
+    first: &[Line<'_>],
+    own: &[Line<'_>],
+    report: &mut Report,
+) -> Result<(), NoMemory> {
+    let mut stage = Stage::new(alloc);
+    play_lines(&mut stage, shared, report)?;
+    play_lines(&mut stage, first, report)?;
+    play_lines(&mut stage, own, report)
 }
 
 /// Carries out each line, together with those that belong to it.

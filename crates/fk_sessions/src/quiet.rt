@@ -4,6 +4,8 @@ use crate::areas::read_from;
 use crate::closed::ClosedFeed;
 use crate::fault::Fault;
 use crate::fields::Fields;
+use crate::memory::Feed;
+use crate::setup::Setup;
 use crate::stage::Stage;
 use fk_access::{Access, read_access};
 use fk_base::FILE_LIMIT;
@@ -26,7 +28,19 @@ pub fn serve_quietly(stage: &mut Stage, fields: &mut Fields<'_>) -> Result<Answe
 
 fn serve_by(stage: &mut Stage, policy: Policy<'_>) -> Result<Answer, Fault> {
     let setup = stage.take_setup();
+    if setup.is_closed {
+        return serve_feed(stage, policy, &setup, &mut ClosedFeed::new());
+    }
     let mut feed = setup.feed(usize::MAX)?;
+    serve_feed(stage, policy, &setup, &mut feed)
+}
+
+fn serve_feed<E: Feed>(
+    stage: &mut Stage,
+    policy: Policy<'_>,
+    setup: &Setup,
+    feed: &mut E,
+) -> Result<Answer, Fault> {
     let mut host = setup.host(&stage.areas)?;
     let mut out = setup.sink();
     let limits = Limits {
@@ -38,17 +52,7 @@ fn serve_by(stage: &mut Stage, policy: Policy<'_>) -> Result<Answer, Fault> {
         limits,
         verbosity: Verbosity::Quiet,
     };
-    let status = if setup.is_closed {
-        serve(
-            stage.alloc,
-            &task,
-            &mut ClosedFeed::new(),
-            &mut host,
-            &mut out,
-        )
-    } else {
-        serve(stage.alloc, &task, &mut feed, &mut host, &mut out)
-    };
+    let status = serve(stage.alloc, &task, feed, &mut host, &mut out);
     stage.areas = read_from(&host)?;
     Ok(Answer::of_run(stage.alloc, out.written(), status)?)
 }

@@ -4,6 +4,7 @@ use crate::fault::Fault;
 use crate::fields::Fields;
 use crate::line::Line;
 use crate::memory::{Area, StartScript};
+use crate::names::Names;
 use crate::setup::SetTurn;
 use crate::stage::Stage;
 use fk_base::{Bytes, Ip4};
@@ -32,17 +33,21 @@ pub fn set_block(
 fn block(stage: &Stage, below: &[Line<'_>]) -> Result<Bytes, Fault> {
     let mut text = Bytes::new(stage.alloc);
     for line in below {
-        if let Some(written) = line.text.strip_prefix("|- ") {
-            text.append(stage.names.bytes(written)?.as_slice())?;
-        } else if line.text == "|" {
-            text.append(b"\n")?;
-        } else {
-            let written = line.text.strip_prefix("| ").ok_or(Fault::NotUnderstood)?;
-            text.append(stage.names.bytes(written)?.as_slice())?;
-            text.append(b"\n")?;
-        }
+        put_line(&stage.names, line.text, &mut text)?;
     }
     Ok(text)
+}
+
+fn put_line(names: &Names, line: &str, text: &mut Bytes) -> Result<(), Fault> {
+    if line == "|" {
+        return Ok(text.append(b"\n")?);
+    }
+    if let Some(written) = line.strip_prefix("|- ") {
+        return names.put_bytes(written, text);
+    }
+    let written = line.strip_prefix("| ").ok_or(Fault::NotUnderstood)?;
+    names.put_bytes(written, text)?;
+    Ok(text.append(b"\n")?)
 }
 
 fn add_file(stage: &mut Stage, name: &str, text: &Bytes) -> Result<(), Fault> {
@@ -63,15 +68,25 @@ pub fn set_up(stage: &mut Stage, word: &str, fields: &mut Fields<'_>) -> Result<
         "fail" => set_failing(stage, fields)?,
         "output" => stage.setup.room = Some(fields.size()?),
         "pieces" => stage.setup.piece = fields.size()?,
-        "entropy" => stage.entropy = stage.names.hex(fields.word()?)?,
+        "entropy" => set_entropy(stage, fields)?,
         "moment" => stage.moment = fields.moment()?,
         "area" => set_area(stage, fields)?,
         "crash" => crash(stage, fields)?,
-        "again" => stage.first = Some(stage.take_setup()),
+        "again" => begin_again(stage),
         _ => return Ok(false),
     }
     fields.end()?;
     Ok(true)
+}
+
+fn set_entropy(stage: &mut Stage, fields: &mut Fields<'_>) -> Result<(), Fault> {
+    stage.entropy = stage.names.hex(fields.word()?)?;
+    Ok(())
+}
+
+/// What is set up so far is for the first of two runs.
+fn begin_again(stage: &mut Stage) {
+    stage.first = Some(stage.take_setup());
 }
 
 fn name_text(stage: &mut Stage, fields: &mut Fields<'_>) -> Result<(), Fault> {

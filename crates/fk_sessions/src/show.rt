@@ -19,26 +19,20 @@ pub fn show(stage: &Stage, fields: &mut Fields<'_>) -> Result<Answer, Fault> {
 fn show_area(stage: &Stage, name: &str) -> Result<Answer, Fault> {
     let bytes = stage.areas.text(area_of(name)?);
     let text = hex_text(stage.alloc, bytes.as_slice())?;
-    let mut answer = Answer::new(stage.alloc);
-    answer.say(text.as_bytes())?;
-    Ok(answer)
+    Ok(Answer::of_text(stage.alloc, text)?)
 }
 
 fn show_calls(stage: &Stage) -> Result<Answer, Fault> {
     let host = stage.host.as_ref().ok_or(Fault::OutOfPlace)?;
     let calls = host.moments();
     let text = format!(in stage.alloc; "{calls}")?;
-    let mut answer = Answer::new(stage.alloc);
-    answer.say(text.as_bytes())?;
-    Ok(answer)
+    Ok(Answer::of_text(stage.alloc, text)?)
 }
 
 fn show_port(stage: &Stage) -> Result<Answer, Fault> {
     let port = stage.port.ok_or(Fault::OutOfPlace)?;
     let text = format!(in stage.alloc; "{port}")?;
-    let mut answer = Answer::new(stage.alloc);
-    answer.say(text.as_bytes())?;
-    Ok(answer)
+    Ok(Answer::of_text(stage.alloc, text)?)
 }
 
 /// What the link has sent last, if it has sent something.
@@ -47,9 +41,9 @@ fn show_link(stage: &Stage) -> Result<Answer, Fault> {
     let count = stage.link.count();
     let port = stage.link.port();
     let mut answer = Answer::new(alloc);
-    answer.say(format!(in alloc; "count {count}")?.as_bytes())?;
+    answer.say_text(format!(in alloc; "count {count}")?)?;
     if count > 0 {
-        answer.say(format!(in alloc; "port {port}")?.as_bytes())?;
+        answer.say_text(format!(in alloc; "port {port}")?)?;
         answer.say(stage.link.server())?;
         answer.say(stage.link.sent())?;
     }

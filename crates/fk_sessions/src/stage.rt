@@ -86,6 +86,12 @@ impl Stage {
     pub fn take_setup(&mut self) -> Setup {
         std::mem::replace(&mut self.setup, Setup::new(self.alloc))
     }
+
+    /// A host over the session's areas, by what was set up.
+    pub fn take_host(&mut self) -> Result<MemHost, NoMemory> {
+        let setup = self.take_setup();
+        setup.host(&self.areas)
+    }
 }
 
 fn none_below(below: &[Line<'_>]) -> Result<Option<Answer>, Fault> {

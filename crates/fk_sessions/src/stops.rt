@@ -9,7 +9,7 @@ use crate::areas::{Areas, left_by};
 use crate::daemon::run_over;
 use crate::fault::Fault;
 use crate::fields::Fields;
-use crate::memory::MemFiles;
+use crate::memory::{MemFiles, MemHost};
 use crate::setup::Setup;
 use crate::stage::Stage;
 use fk_base::{NoMemory, Status, Words, read_decimal};
@@ -39,30 +39,70 @@ pub fn stop_everywhere(stage: &mut Stage, fields: &mut Fields<'_>) -> Result<Ans
         return Err(Fault::NotUnderstood);
     }
     let runs = runs_of(stage, fields)?;
-    let files = &mut stage.files;
     let mut answer = Answer::new(stage.alloc);
-    let ran = run_over(
-        runs.alloc,
-        &runs.words,
-        files,
-        &runs.first,
-        &stage.areas,
-        usize::MAX,
-    )?;
-    let attempts = attempts_of(&runs, files, &stage.areas, ran.out.written())?;
+    let cases = stop_first(&runs, &mut stage.files, &stage.areas, &mut answer)?;
+    say_cases(runs.alloc, cases, &mut answer)?;
+    Ok(answer)
+}
+
+/// Plays the first run, and then the second after each crash of it. Answers how many cases these were.
+fn stop_first(
+    runs: &Runs,
+    files: &mut MemFiles,
+    areas: &Areas,
+    answer: &mut Answer,
+) -> Result<u64, Fault> {
+    let alloc = runs.alloc;
+    let ran = run_over(alloc, &runs.words, files, &runs.first, areas, usize::MAX)?;
+    let attempts = attempts_of(runs, files, areas, ran.out.written())?;
+    stop_after_each(runs, files, &attempts, &ran.host, answer)
+}
+
+fn stop_after_each(
+    runs: &Runs,
+    files: &mut MemFiles,
+    attempts: &[Attempt],
+    host: &MemHost,
+    answer: &mut Answer,
+) -> Result<u64, Fault> {
     let mut cases = 0u64;
-    for moment in 0..=ran.host.moments() {
+    for moment in 0..host.moments().saturating_add(1) {
         for keep in [true, false] {
-            let areas = left_by(&ran.host, moment, keep)?.ok_or(Fault::OutOfPlace)?;
-            cases = cases.saturating_add(1);
-            if !holds(&runs, files, &attempts, moment, &areas)? {
-                let which = if keep { "keep" } else { "lose" };
-                answer.say(format!(in runs.alloc; "crash {moment} {which} fails")?.as_bytes())?;
+            if !holds_after(runs, files, attempts, host, moment, keep)? {
+                say_failing(runs.alloc, moment, keep, answer)?;
             }
+            cases = cases.saturating_add(1);
         }
     }
-    answer.say(format!(in runs.alloc; "cases {cases}")?.as_bytes())?;
-    Ok(answer)
+    Ok(cases)
+}
+
+fn holds_after(
+    runs: &Runs,
+    files: &mut MemFiles,
+    attempts: &[Attempt],
+    host: &MemHost,
+    moment: u64,
+    keep: bool,
+) -> Result<bool, Fault> {
+    match left_by(host, moment, keep)? {
+        Some(areas) => holds(runs, files, attempts, moment, &areas),
+        None => Err(Fault::OutOfPlace),
+    }
+}
+
+fn say_failing(
+    alloc: Global,
+    moment: u64,
+    keep: bool,
+    answer: &mut Answer,
+) -> Result<(), NoMemory> {
+    let which = if keep { "keep" } else { "lose" };
+    answer.say_text(format!(in alloc; "crash {moment} {which} fails")?)
+}
+
+fn say_cases(alloc: Global, cases: u64, answer: &mut Answer) -> Result<(), NoMemory> {
+    answer.say_text(format!(in alloc; "cases {cases}")?)
 }
 
 fn runs_of(stage: &mut Stage, fields: &mut Fields<'_>) -> Result<Runs, Fault> {
@@ -157,17 +197,36 @@ fn opens_twice(
     printed: &str,
 ) -> Result<bool, NoMemory> {
     let mut opened = Vec::new(runs.alloc);
+    add_first(&runs.first, attempts, moment, &mut opened)?;
+    add_second(&runs.second, printed, &mut opened)?;
+    Ok(has_twice(&opened))
+}
+
+fn add_first<'a>(
+    first: &'a Setup,
+    attempts: &[Attempt],
+    moment: u64,
+    opened: &mut Vec<&'a [u8]>,
+) -> Result<(), NoMemory> {
     for attempt in attempts {
         if attempt.moment <= moment {
-            opened.push(datagram_of(&runs.first, attempt.turn))?;
+            opened.push(datagram_of(first, attempt.turn))?;
         }
     }
-    for turn in 0..runs.second.turns.len() {
+    Ok(())
+}
+
+fn add_second<'a>(
+    second: &'a Setup,
+    printed: &str,
+    opened: &mut Vec<&'a [u8]>,
+) -> Result<(), NoMemory> {
+    for turn in 0..second.turns.len() {
         if count_lines(printed, turn.saturating_add(1), OPENS, None) > 0 {
-            opened.push(datagram_of(&runs.second, turn))?;
+            opened.push(datagram_of(second, turn))?;
         }
     }
-    Ok(has_twice(&opened))
+    Ok(())
 }
 
 fn datagram_of(setup: &Setup, turn: usize) -> &[u8] {
