@@ -54,7 +54,7 @@ impl<'a> Scanner<'a> {
 
     /// Takes the spaces and line feeds that come next.
     pub(crate) fn skip_blanks(&mut self) {
-        let _blanks = self.take_before(End::NoBlank);
+        let _spaces = self.take_before(End::NoSpace);
     }
 
     /// Whether the next byte is a blank or nothing is left.
@@ -64,7 +64,7 @@ impl<'a> Scanner<'a> {
 
     /// Takes what stands before the next blank.
     pub(crate) fn take_word(&mut self) -> &'a [u8] {
-        self.take_before(End::Blank)
+        self.take_before(End::Space)
     }
 
     /// Takes what stands before the end of the line.
@@ -95,8 +95,8 @@ impl<'a> Scanner<'a> {
 /// The byte that ends a part of a row.
 #[derive(Clone, Copy)]
 enum End {
-    Blank,
-    NoBlank,
+    Space,
+    NoSpace,
     LineFeed,
     NoNameByte,
     NoDigit,
@@ -105,8 +105,8 @@ enum End {
 impl End {
     fn is_at(self, byte: u8) -> bool {
         match self {
-            End::Blank => is_blank(byte),
-            End::NoBlank => !is_blank(byte),
+            End::Space => is_blank(byte),
+            End::NoSpace => !is_blank(byte),
             End::LineFeed => byte == b'\n',
             End::NoNameByte => !is_name_byte(byte),
             End::NoDigit => !byte.is_ascii_digit(),
