@@ -34,7 +34,7 @@ demo: ## shows the sample trial, and a daemon on the loopback: one packet, and a
 	@built=$$(tests/lib/program fwknopd) && [ -z "$$(find $(SOURCES) -newer "$$built" -print -quit)" ] \
 	&& { echo "make demo: with the proved program $$built" >&2; exec examples/demo; }; \
 	[ -n "$$built" ] || echo "make demo: no proved program is built" >&2; \
-	tests/lib/unproved $(PROGRAMS) && echo "make demo: with an UNPROVED build" >&2 && PROGRAMS_FOLDER=$(CURDIR)/bin/unproved examples/demo
+	tests/lib/unproved fwknopd fwknop && echo "make demo: with an UNPROVED build" >&2 && PROGRAMS_FOLDER=$(CURDIR)/bin/unproved examples/demo
 
 # Each program is built once, for its stored run and for all scripts. Where one step fails the others are made all the same.
 test: ## runs the stored runs, the tests of crates and the scripts of tests/ from unproved builds, and proves nothing
